@@ -1,0 +1,132 @@
+// Which kind of record a type and a subtype name: document 01, "Record frame and kinds".
+ghost use mathlib.Core.Path.{_≡_};
+ghost use Prim.Native.Nat.{_<_};
+ghost use lib.ListN.{getD};
+ghost use Rattle.kinds.specs.Kinds.{pairs, noPair, hasType, beyondTable, kindOf};
+
+// The kinds of STDF V4 whose bodies this house does not read and whose places within the body it does not judge.
+pub enum Remaining {
+    Pmr,
+    Pgr,
+    Plr,
+    Wir,
+    Wrr,
+    Wcr,
+    Tsr,
+    Ptr,
+    Mpr,
+    Ftr,
+    Bps,
+    Eps,
+    Gdr,
+    Dtr,
+}
+
+// The kind of a record: one of STDF V4's twenty-five, a custom one, or unknown.
+pub enum Kind {
+    Far,
+    Atr,
+    Mir,
+    Mrr,
+    Pcr,
+    Hbr,
+    Sbr,
+    Rdr,
+    Sdr,
+    Pir,
+    Prr,
+    Remaining(Remaining),
+    Custom,
+    Unknown,
+}
+
+// A type, a subtype and the kind that they name.
+pub struct Pair(pub u8, pub u8, pub Kind);
+
+const PAIR_COUNT: usize = 25;
+
+const PAIRS: [Pair; PAIR_COUNT] = [
+    Pair(0, 10, Kind::Far),
+    Pair(0, 20, Kind::Atr),
+    Pair(1, 10, Kind::Mir),
+    Pair(1, 20, Kind::Mrr),
+    Pair(1, 30, Kind::Pcr),
+    Pair(1, 40, Kind::Hbr),
+    Pair(1, 50, Kind::Sbr),
+    Pair(1, 60, Kind::Remaining(Remaining::Pmr)),
+    Pair(1, 62, Kind::Remaining(Remaining::Pgr)),
+    Pair(1, 63, Kind::Remaining(Remaining::Plr)),
+    Pair(1, 70, Kind::Rdr),
+    Pair(1, 80, Kind::Sdr),
+    Pair(2, 10, Kind::Remaining(Remaining::Wir)),
+    Pair(2, 20, Kind::Remaining(Remaining::Wrr)),
+    Pair(2, 30, Kind::Remaining(Remaining::Wcr)),
+    Pair(5, 10, Kind::Pir),
+    Pair(5, 20, Kind::Prr),
+    Pair(10, 30, Kind::Remaining(Remaining::Tsr)),
+    Pair(15, 10, Kind::Remaining(Remaining::Ptr)),
+    Pair(15, 15, Kind::Remaining(Remaining::Mpr)),
+    Pair(15, 20, Kind::Remaining(Remaining::Ftr)),
+    Pair(20, 10, Kind::Remaining(Remaining::Bps)),
+    Pair(20, 20, Kind::Remaining(Remaining::Eps)),
+    Pair(50, 10, Kind::Remaining(Remaining::Gdr)),
+    Pair(50, 30, Kind::Remaining(Remaining::Dtr)),
+];
+
+// The table's entry i.
+fn entry(i: usize) -> Pair
+    requires { ⌜ i < 25 ⌝ }
+    ensures { λ r. ⌜ r ≡ getD pairs i noPair ⌝ }
+{
+    PAIRS[i]
+}
+
+// Whether any of the twenty-five pairs has the type.
+fn has_type(typ: u8) -> bool
+    ensures { λ r. ⌜ r ≡ hasType pairs typ ⌝ }
+{
+    let mut i: usize = 0;
+    while i < PAIR_COUNT {
+        let p = entry(i);
+        if p.0 == typ {
+            return true;
+        }
+        i += 1;
+    }
+    false
+}
+
+// The kind of a pair that is none of the twenty-five.
+fn beyond(typ: u8, sub: u8) -> Kind
+    ensures { λ r. ⌜ r ≡ beyondTable typ sub ⌝ }
+{
+    if 200 < typ {
+        return Kind::Custom;
+    }
+    if sub <= 200 {
+        return Kind::Unknown;
+    }
+    if has_type(typ) {
+        Kind::Custom
+    } else {
+        Kind::Unknown
+    }
+}
+
+// The kind that a type and a subtype name.
+pub fn kind_of(typ: u8, sub: u8) -> Kind
+    ensures { λ r. ⌜ r ≡ kindOf typ sub ⌝ }
+{
+    let mut i: usize = 0;
+    while i < PAIR_COUNT {
+        let p = entry(i);
+        let k = p.2;
+        if p.0 == typ {
+            if p.1 == sub {
+                return k;
+            }
+        }
+        i += 1;
+    }
+    beyond(typ, sub)
+}
