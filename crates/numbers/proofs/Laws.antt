@@ -9,15 +9,15 @@ use native.Mathlib.Omega.{arith}
 use borrow.Author.Tests.{le-ltb, ltb-false}
 use lib.Dec.{ltb}
 use lib.IntN.{ℤ, pos, negsuc, _-ℤ_}
-use lib.ListN.{length, getD, drop, length-reverse}
-use lib.Seq.{sets, sets-eq, getD-drop}
+use lib.ListN.{length, getD, drop, length-drop, length-reverse}
+use lib.Seq.{sets, sets-eq, getD-drop, take-all}
 use mir.Syntax.{w16}
 use mir.Val.{SFits, toZ, ofZ}
 use mir.Facts.{sfits-toZ, toZ-pos, toZ-ofZ}
 use Rattle.numbers.specs.declared.Order.{Order}
 use Rattle.numbers.specs.declared.Order.the-variants.{HighFirst, LowFirst}
 use Rattle.numbers.specs.Numbers.{ordered, worth, number, front, bytes, written, over, past, signed}
-use Rattle.numbers.specs.Laws.{Bytes, ReadWritten, WrittenRead, LengthWritten, NumberBelow, FrontDrop}
+use Rattle.numbers.specs.Laws.{Bytes, ReadWritten, WrittenRead, LengthWritten, NumberBelow, FrontPart}
 
 -- ---- low byte first
 
@@ -82,8 +82,11 @@ front-drop-from : (w k j : ℕ) (s : List ℕ) → front w j (drop k s) ≡ fron
 front-drop-from zero k j s = refl
 front-drop-from (suc w) k j s = rw (getD-drop k s j 0, front-drop-from w k (suc j) s, add-suc)
 
-pub front-drop : FrontDrop
-front-drop w k s = front-drop-from w k 0 s ∙ rw (add-zero k)
+pub front-part : FrontPart
+front-part w k s =
+    ap (front w 0) (take-all (length s - k) (drop k s) (omega (arith, length-drop k s)))
+    ∙ front-drop-from w k 0 s
+    ∙ rw (add-zero k)
 
 -- one byte is worth itself in either order
 pub one-byte : (order : Order) (b : ℕ) → number order (b ∷ []) ≡ b

@@ -3,8 +3,8 @@
 -- Assumes nothing.
 use mathlib.Core.Path.{_≡_}
 use mathlib.Core.List.{List}
-use Prim.Native.Nat.{ℕ, _<_}
-use lib.ListN.{length, getD, drop}
+use Prim.Native.Nat.{ℕ, _-_, _<_}
+use lib.ListN.{length, getD, take, drop}
 use Rattle.numbers.specs.declared.Order.{Order}
 use Rattle.numbers.specs.Numbers.{number, front, written, past}
 
@@ -27,6 +27,6 @@ LengthWritten = (order : Order) (w n : ℕ) → length (written order w n) ≡ w
 abbrev pub NumberBelow : Type 0
 NumberBelow = (order : Order) (s : List ℕ) → Bytes s → number order s < past (length s)
 
--- a part that starts at k begins with the bytes from place k on
-abbrev pub FrontDrop : Type 0
-FrontDrop = (w k : ℕ) (s : List ℕ) → front w 0 (drop k s) ≡ front w k s
+-- the part `&s[k..]` begins with the bytes from place k on
+abbrev pub FrontPart : Type 0
+FrontPart = (w k : ℕ) (s : List ℕ) → front w 0 (take (length s - k) (drop k s)) ≡ front w k s

@@ -1,3 +1,4 @@
 pub mod Choice
 pub mod Once
+pub mod Both
 pub mod Table
