@@ -1,0 +1,81 @@
+// A strictly rising list kept at the start of a lent slice: document 01, "The house, its slots and its rows", for the
+// keys of a house's rows and for a session's open parts. A list that rises has no key twice and stands in report order.
+// It is the first `used` elements of the slice; what becomes of every element behind them is promised too.
+ghost use mathlib.Core.Path.{_≡_};
+ghost use mathlib.Core.Bool.{true};
+ghost use Prim.Native.Nat.{_+_, _≤_, _<_};
+ghost use lib.ListN.{length, take};
+ghost use Rattle.rising.specs.Rising.{rising, rank, held, insertAt, removeAt};
+
+// Whether each of the first `used` elements is above the one before it. No early return: a list that does not rise is
+// rare, and without one the elements are compared several at a time.
+pub fn is_rising(s: &[u64], used: usize) -> bool
+    requires { ⌜ used ≤ length (now s) ⌝ }
+    ensures { λ r. ⌜ r ≡ rising (take used (now (s .entry))) ⌝ }
+{
+    let mut rises = true;
+    let mut i: usize = 1;
+    while i < used {
+        if s[i] <= s[i - 1] {
+            rises = false;
+        }
+        i += 1;
+    }
+    rises
+}
+
+// The rank of `key`: how many of the list's elements are below it.
+pub fn rank_of(s: &[u64], used: usize, key: u64) -> usize
+    requires { ⌜ (used ≤ length (now s)) × (rising (take used (now s)) ≡ true) ⌝ }
+    ensures { λ r. ⌜ r ≡ rank key (take used (now (s .entry))) ⌝ }
+{
+    let mut lo: usize = 0;
+    let mut hi = used;
+    while lo < hi {
+        let mid = lo + (hi - lo) / 2;
+        if s[mid] < key {
+            lo = mid + 1;
+        } else {
+            hi = mid;
+        }
+    }
+    lo
+}
+
+// Whether the list holds `key`, whose rank is `at`.
+pub fn holds(s: &[u64], used: usize, at: usize, key: u64) -> bool
+    requires { ⌜ (used ≤ length (now s)) × (rising (take used (now s)) ≡ true) × (at ≡ rank key (take used (now s))) ⌝ }
+    ensures { λ r. ⌜ r ≡ held key (take used (now (s .entry))) ⌝ }
+{
+    if used <= at {
+        return false;
+    }
+    s[at] == key
+}
+
+// Puts `v` in at `at`: the elements from there on move one cell up, and one more of the slice is used.
+pub fn insert(s: &mut [u64], used: usize, at: usize, v: u64)
+    requires { ⌜ (at ≤ used) × (used < length (now s)) ⌝ }
+    ensures { λ _. ⌜ now (s .exit) ≡ insertAt (now (s .entry)) used at v ⌝ }
+{
+    let mut i = used;
+    while at < i {
+        let below = i - 1;
+        s[i] = s[below];
+        i = below;
+    }
+    s[at] = v;
+}
+
+// Takes `n` elements out from `at` on: those behind them move down, and `n` fewer of the slice are used.
+pub fn remove(s: &mut [u64], used: usize, at: usize, n: usize)
+    requires { ⌜ (at + n ≤ used) × (used ≤ length (now s)) ⌝ }
+    ensures { λ _. ⌜ now (s .exit) ≡ removeAt (now (s .entry)) used at n ⌝ }
+{
+    let left = used - n;
+    let mut i = at;
+    while i < left {
+        s[i] = s[i + n];
+        i += 1;
+    }
+}
