@@ -1,5 +1,5 @@
--- What is read of a body of each kind. Document 01, "Record frame and kinds", bodies read. Fields go by their number in the
--- tables of `fields`, so that any other field's place is told by the same table.
+-- What is read of a body of each kind. Document 01, "Record frame and kinds", bodies read. Fields go by their number
+-- in the tables of `fields`, so that any other field's place is told by the same table.
 --
 --   placeOf, byteOf, valueOf   a field's place in a body, and what stands there
 --   farOf .. prrOf             what a body says, field by field
@@ -27,7 +27,8 @@ use Rattle.bodies.specs.declared.Record.{Record}
 use Rattle.bodies.specs.declared.Record.the-variants as body
 use Rattle.bodies.specs.declared.Reading.{Reading}
 use Rattle.bodies.specs.declared.Reading.the-variants.{Fits, Misfit}
-use Rattle.bodies.specs.Values.{countAt, passFailAt, nameAt, binFits, softBinFits, passFailFits, flagFits, partHeadFits}
+use Rattle.bodies.specs.Values.{countAt, passFailAt, nameAt, binFits}
+use Rattle.bodies.specs.Values.{softBinFits, passFailFits, flagFits, partHeadFits}
 
 abbrev pub placeOf : Body → ℕ → List ℕ → ℕ
 placeOf t j b = offset (fields t) j b

@@ -1,5 +1,5 @@
--- The value of a field at a place of a body, and the rules of values. Document 01, "Record frame and kinds", value rules and
--- optional fields.
+-- The value of a field at a place of a body, and the rules of values. Document 01, "Record frame and kinds", value
+-- rules and optional fields.
 --
 --   countAt, passFailAt, nameAt        an optional field: its value, or missing
 --   binFits, softBinFits, passFailFits, flagFits, partHeadFits   the value rules, each 7 if broken

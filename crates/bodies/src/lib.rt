@@ -1,4 +1,5 @@
-// What a body says: document 01, "Record frame and kinds", the bodies read, their value rules and their optional fields.
+// What a body says: document 01, "Record frame and kinds", the bodies read, their value rules and their optional
+// fields.
 use fields::BIN;
 use fields::FAR;
 use fields::MIR;
@@ -14,7 +15,8 @@ ghost use Prim.Native.Nat.{_+_, _≤_, _<_};
 ghost use lib.ListN.{length};
 ghost use Rattle.numbers.specs.Numbers.{number, front};
 ghost use Rattle.bodies.specs.Values.{countAt, passFailAt, nameAt, softBinFits, passFailFits};
-ghost use Rattle.bodies.specs.Bodies.{pcrOf, binOf, binValuesFit, prrValuesFit, reading, readFar, readPcr, readBin, readPir, readPrr, readBody};
+ghost use Rattle.bodies.specs.Bodies.{pcrOf, binOf, binValuesFit, prrValuesFit, reading};
+ghost use Rattle.bodies.specs.Bodies.{readFar, readPcr, readBin, readPir, readPrr, readBody};
 
 // An optional field: a number, or missing.
 pub enum Optional {

@@ -1,5 +1,5 @@
-// Which lengths of a body fit its kind. A body is cut at every length, so it is cut inside each field and at each field's
-// end; its strings are all empty, or all as long as can be.
+// Which lengths of a body fit its kind. A body is cut at every length, so it is cut inside each field and at each
+// field's end; its strings are all empty, or all as long as can be.
 use crate::text::say;
 use crate::text::say_number;
 use crate::text::say_order;
@@ -131,7 +131,7 @@ fn say_kind(name: &[u8], kind: Kind, fixed: usize, strings: usize)
     say_orders(name, b", strings longest, ", kind, &full);
 }
 
-pub fn say_all() {
+pub(crate) fn say_all() {
     say_kind(b"FAR", Kind::Far, 2, 0);
     say_kind(b"MIR", Kind::Mir, 15, 30);
     say_kind(b"MRR", Kind::Mrr, 5, 2);

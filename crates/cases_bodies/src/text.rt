@@ -1,15 +1,15 @@
 // What the transcript is written with.
 use numbers::Order;
 
-pub fn say(words: &[u8]) {
+pub(crate) fn say(words: &[u8]) {
     io::write_all(1, words);
 }
 
-pub fn say_number(n: u32) {
+pub(crate) fn say_number(n: u32) {
     io::print_decimal(1, n as u64);
 }
 
-pub fn say_order(order: Order) {
+pub(crate) fn say_order(order: Order) {
     match order {
         Order::HighFirst => say(b"high byte first"),
         Order::LowFirst => say(b"low byte first"),

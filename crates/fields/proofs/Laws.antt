@@ -59,7 +59,8 @@ module _ (fs body : List ℕ) (required j at : ℕ) where
           add-one,
         )
 
-  pub walk-ends : length fs ≤ j → at ≤ length body → fits (drop j fs) (required - j) (drop at body) ≡ leb (length body) at
+  pub walk-ends : length fs ≤ j → at ≤ length body
+      → fits (drop j fs) (required - j) (drop at body) ≡ leb (length body) at
   walk-ends h g = rw (drop-of-length-le fs {i = j} h) (go (drop at body) (length-drop at body))
     where
       go : (left : List ℕ) → length left ≡ length body - at → fits [] (required - j) left ≡ leb (length body) at

@@ -1,5 +1,5 @@
--- The fields of each body that is read, required to the bar. Document 01, "Record frame and kinds", its table of bodies;
--- MIR in the order of source document 004.
+-- The fields of each body that is read, required to the bar. Document 01, "Record frame and kinds", its table of
+-- bodies; MIR in the order of source document 004.
 --
 --   Body       a body's fields before the bar and behind it
 --   fitsBody   whether bytes are such a body

@@ -1,5 +1,5 @@
-// How a body is made of fields: document 01, "Record frame and kinds", bodies read. One table for each body, in the order
-// of its bytes, and one walk for all of them.
+// How a body is made of fields: document 01, "Record frame and kinds", bodies read. One table for each body, in the
+// order of its bytes, and one walk for all of them.
 ghost use mathlib.Core.Path.{_≡_};
 ghost use Prim.Native.Nat.{_≤_, _<_};
 ghost use Rattle.fields.specs.Fields.{size, fits};
@@ -94,8 +94,8 @@ fn size_of(typ: u8, first: u8) -> usize
     if typ == 0 { wide(first) + 1 } else { wide(typ) }
 }
 
-// Whether a body is made of the fields: it stops after the first `required` of them or later, not inside one and not past
-// the last.
+// Whether a body is made of the fields: it stops after the first `required` of them or later, not inside one and not
+// past the last.
 pub fn fits_table(body: &[u8], fields: &[u8], required: usize) -> bool
     ensures { λ r. ⌜ r ≡ fits (now (fields .entry)) required (now (body .entry)) ⌝ }
 {

@@ -1,4 +1,5 @@
--- The statement of specs/Laws.antt, proved by one computed test over the table; and how the searches of the code go on.
+-- The statement of specs/Laws.antt, proved by one computed test over the table; and how the searches of the code go
+-- on.
 -- Assumes nothing.
 use mathlib.Core.Path.{_≡_, refl, sym, ap, _∙_}
 use mathlib.Core.Bool.{Bool, true, false, _&&_}

@@ -12,8 +12,10 @@ use mathlib.Core.Bool.{Bool, true, false, cond, _&&_, _||_}
 use mathlib.Core.List.{List, [], _∷_}
 use lib.Dec.{eqb, ltb}
 use Rattle.kinds.specs.declared.Kind.{Kind}
-use Rattle.kinds.specs.declared.Kind.the-variants.{Far, Atr, Mir, Mrr, Pcr, Hbr, Sbr, Rdr, Sdr, Pir, Prr, Remaining, Custom, Unknown}
-use Rattle.kinds.specs.declared.Remaining.the-variants.{Pmr, Pgr, Plr, Wir, Wrr, Wcr, Tsr, Ptr, Mpr, Ftr, Bps, Eps, Gdr, Dtr}
+use Rattle.kinds.specs.declared.Kind.the-variants.{Far, Atr, Mir, Mrr, Pcr, Hbr, Sbr}
+use Rattle.kinds.specs.declared.Kind.the-variants.{Rdr, Sdr, Pir, Prr, Remaining, Custom, Unknown}
+use Rattle.kinds.specs.declared.Remaining.the-variants.{Pmr, Pgr, Plr, Wir, Wrr, Wcr, Tsr}
+use Rattle.kinds.specs.declared.Remaining.the-variants.{Ptr, Mpr, Ftr, Bps, Eps, Gdr, Dtr}
 use Rattle.kinds.specs.declared.Pair.{Pair}
 
 -- STDF V4 has twenty-five pairs: the table, in the document's order

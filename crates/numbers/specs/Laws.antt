@@ -1,5 +1,5 @@
--- What is shown of numbers, once over the width: statements only. Each is proved in proofs/Laws.antt, under its name in
--- small letters.
+-- What is shown of numbers, once over the width: statements only. Each is proved in proofs/Laws.antt, under its name
+-- in small letters.
 -- Assumes nothing.
 use mathlib.Core.Path.{_≡_}
 use mathlib.Core.List.{List}

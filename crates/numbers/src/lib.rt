@@ -1,5 +1,6 @@
-// Numbers of STDF in a part of a slice: document 01, "Record frame and kinds", CPU_TYPE and the byte order. Each function
-// reads or writes at the start of the part that it is lent; the caller has judged that the number lies in it.
+// Numbers of STDF in a part of a slice: document 01, "Record frame and kinds", CPU_TYPE and the byte order. Each
+// function reads or writes at the start of the part that it is lent; the caller has judged that the number lies in
+// it.
 ghost use mathlib.Core.Path.{_≡_};
 ghost use Prim.Native.Nat.{_≤_, _<_};
 ghost use mathlib.Core.List.{[], _∷_};

@@ -1,4 +1,5 @@
--- The laws as the code meets them: the rank by the elements of the slice, and what one turn of each loop leaves to do.
+-- The laws as the code meets them: the rank by the elements of the slice, and what one turn of each loop leaves to
+-- do.
 -- Assumes nothing.
 use mathlib.Core.Path.{_≡_, refl, sym, _∙_}
 use mathlib.Core.Bool.{Bool, true, false}

@@ -1,6 +1,6 @@
 // A strictly rising list kept at the start of a lent slice: document 01, "The house, its slots and its rows", for the
-// keys of a house's rows and for a session's open parts. A list that rises has no key twice and stands in report order.
-// It is the first `used` elements of the slice; what becomes of every element behind them is promised too.
+// keys of a house's rows and for a session's open parts. A list that rises has no key twice and stands in report
+// order. It is the first `used` elements of the slice; what becomes of every element behind them is promised too.
 ghost use mathlib.Core.Path.{_≡_};
 ghost use mathlib.Core.Bool.{true};
 ghost use Prim.Native.Nat.{_+_, _≤_, _<_};

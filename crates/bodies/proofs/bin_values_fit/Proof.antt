@@ -10,7 +10,8 @@ use Rattle.bodies.proofs.bin_values_fit.Tie as tie
 returns : tie.Need-returns
 returns c =
     let a = c .before .before .before .before .args in
-    c .pass-fail-fits .ensures ∙ sym (bin-low (a .order) (now (a .body)) _ (c .before .before .u2-at .ensures) (c .before .if1 .taken))
+    c .pass-fail-fits .ensures
+    ∙ sym (bin-low (a .order) (now (a .body)) _ (c .before .before .u2-at .ensures) (c .before .if1 .taken))
 
 returns-2 : tie.Need-returns-2
 returns-2 c =

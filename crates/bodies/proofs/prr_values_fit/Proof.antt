@@ -23,7 +23,8 @@ returns-3 c =
     let bits = c .before .before in
     let one = bits .before .before in
     let a = one .before .before .before .args in
-    sym (prr-high (a .order) (now (a .body)) _ (one .if1 .left) (bits .if2 .left) (c .before .u2-at .ensures) (c .if3 .taken))
+    sym
+    (prr-high (a .order) (now (a .body)) _ (one .if1 .left) (bits .if2 .left) (c .before .u2-at .ensures) (c .if3 .taken))
 
 returns-4 : tie.Need-returns-4
 returns-4 c =
@@ -33,7 +34,8 @@ returns-4 c =
     let a = one .before .before .before .args in
     c .soft-bin-fits .ensures
     ∙ sym
-    (prr-low (a .order) (now (a .body)) _ (one .if1 .left) (bits .if2 .left) (low .before .u2-at .ensures) (low .if3 .left))
+    (prr-low (a .order) (now (a .body)) _ (one .if1 .left) (bits .if2 .left)
+    (low .before .u2-at .ensures) (low .if3 .left))
 
 -- ---- found by search
 

@@ -1,4 +1,5 @@
--- `bodies::read_bin` meets its contract: a body that fits has the bytes that are read, since its required fields are there.
+-- `bodies::read_bin` meets its contract: a body that fits has the bytes that are read, since its required fields are
+-- there.
 -- Assumes nothing.
 use mathlib.Core.Path.{_≡_, ap, sym, _∙_}
 use mathlib.Core.Bool.{true}

@@ -1,4 +1,5 @@
--- `bodies::read_far` meets its contract: a body that fits has the bytes that are read, since its required fields are there.
+-- `bodies::read_far` meets its contract: a body that fits has the bytes that are read, since its required fields are
+-- there.
 -- Assumes nothing.
 use mathlib.Core.Path.{_≡_, sym, _∙_}
 use mathlib.Core.Bool.{true}

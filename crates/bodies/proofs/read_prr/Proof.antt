@@ -1,4 +1,5 @@
--- `bodies::read_prr` meets its contract: a body that fits has the bytes that are read, since its required fields are there.
+-- `bodies::read_prr` meets its contract: a body that fits has the bytes that are read, since its required fields are
+-- there.
 -- Assumes nothing.
 use mathlib.Core.List.{List}
 use mathlib.Core.Path.{_≡_, ap, sym, _∙_}

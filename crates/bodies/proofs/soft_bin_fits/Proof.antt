@@ -9,16 +9,26 @@ use Rattle.bodies.proofs.soft_bin_fits.Statement.{statement}
 use Rattle.bodies.proofs.soft_bin_fits.Tie as tie
 
 returns : tie.Need-returns
-returns c = let a = c .before .before .args in sym (soft-cut (a .order) (now (a .body)) (a .at) (omega arith))
+returns c =
+    let a = c .before .before .args in
+    sym (soft-cut (a .order) (now (a .body)) (a .at) (omega arith))
 
 returns-2 : tie.Need-returns-2
-returns-2 c = let a = c .before .before .before .args in sym (soft-cut (a .order) (now (a .body)) (a .at) (omega arith))
+returns-2 c =
+    let a = c .before .before .before .args in
+    sym (soft-cut (a .order) (now (a .body)) (a .at) (omega arith))
 
 returns-3 : tie.Need-returns-3
-returns-3 c = let a = c .before .before .before .before .before .args in sym (soft-low (a .order) (now (a .body)) (a .at) (c .before .u2-at .result) (omega arith) (c .before .u2-at .ensures) (c .if3 .taken))
+returns-3 c =
+    let a = c .before .before .before .before .before .args in
+    let n = c .before .u2-at in
+    sym (soft-low (a .order) (now (a .body)) (a .at) (n .result) (omega arith) (n .ensures) (c .if3 .taken))
 
 returns-4 : tie.Need-returns-4
-returns-4 c = let a = c .before .before .before .before .before .args in sym (soft-absent (a .order) (now (a .body)) (a .at) (c .before .u2-at .result) (omega arith) (c .before .u2-at .ensures) (c .if3 .left))
+returns-4 c =
+    let a = c .before .before .before .before .before .args in
+    let n = c .before .u2-at in
+    sym (soft-absent (a .order) (now (a .body)) (a .at) (n .result) (omega arith) (n .ensures) (c .if3 .left))
 
 -- ---- found by search
 

@@ -1,5 +1,5 @@
--- `fields::fits_table` meets its contract: what is left of the body fits what is left of the fields just where the whole
--- does.
+-- `fields::fits_table` meets its contract: what is left of the body fits what is left of the fields just where the
+-- whole does.
 -- Assumes nothing.
 use mathlib.Core.Path.{_≡_, ap, sym, _∙_}
 use Prim.Native.Nat.{ℕ, _-_, _≤_}
@@ -36,7 +36,8 @@ returns-2 c =
     let sized = c .before in
     let begun = sized .before .before .before in
     let turn = begun .before in
-    sym (walk-short _ _ _ _ _ _ (turn .loop-test .taken) (begun .if1 .left) (sized .size-of .ensures .0) (c .if2 .taken))
+    sym (walk-short _ _ _ _ _ _ (turn .loop-test .taken) (begun .if1 .left) (sized .size-of .ensures .0)
+    (c .if2 .taken))
     ∙ turn .before .loop .inv .1 .1
 
 loop-again : tie.Need-loop-again Inv-loop μ-loop

@@ -13,10 +13,16 @@ returns-2 : tie.Need-returns-2
 returns-2 c = sym (beyond-low _ _ (c .before .if1 .left) (c .if2 .taken))
 
 returns-3 : tie.Need-returns-3
-returns-3 c = sym (beyond-custom _ _ (c .before .before .before .if1 .left) (c .before .before .if2 .left) (sym (c .before .has-type .ensures) ∙ c .if3 .taken))
+returns-3 c =
+    let above = c .before .before in
+    sym (beyond-custom _ _ (above .before .if1 .left) (above .if2 .left)
+    (sym (c .before .has-type .ensures) ∙ c .if3 .taken))
 
 returns-4 : tie.Need-returns-4
-returns-4 c = sym (beyond-unknown _ _ (c .before .before .before .if1 .left) (c .before .before .if2 .left) (sym (c .before .has-type .ensures) ∙ c .if3 .left))
+returns-4 c =
+    let above = c .before .before in
+    sym (beyond-unknown _ _ (above .before .if1 .left) (above .if2 .left)
+    (sym (c .before .has-type .ensures) ∙ c .if3 .left))
 
 -- ---- found by search
 

@@ -28,8 +28,10 @@ returns c =
 loop-again : tie.Need-loop-again Inv-loop μ-loop
 loop-again c =
     let found = c .before .before in
-    let l = found .before .before in
-    (omega arith, l .loop .inv .1 ∙ type-on pairs _ (l .loop .i) (omega arith) (rw (found .entry .ensures) at (c .if1 .left)))
+    let l = found .before .before in (
+      omega arith,
+      l .loop .inv .1 ∙ type-on pairs _ (l .loop .i) (omega arith) (rw (found .entry .ensures) at (c .if1 .left)),
+    )
 
 returns-2 : tie.Need-returns-2 Inv-loop μ-loop
 returns-2 c = sym (c .before .loop .inv .1 ∙ type-none pairs _ (c .before .loop .i) (omega arith))

@@ -29,7 +29,8 @@ returns c =
     rw is
     (sym
     (l .loop .inv .1
-    ∙ named-here pairs _ _ _ (l .loop .i) (omega arith) (rw is at (c .before .before .if1 .taken)) (rw is at (c .if2 .taken))))
+    ∙ named-here pairs _ _ _ (l .loop .i) (omega arith) (rw is at (c .before .before .if1 .taken))
+    (rw is at (c .if2 .taken))))
 
 loop-again : tie.Need-loop-again Inv-loop μ-loop
 loop-again c =

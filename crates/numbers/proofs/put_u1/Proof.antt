@@ -8,7 +8,9 @@ use Rattle.numbers.proofs.put_u1.Statement.{statement}
 use Rattle.numbers.proofs.put_u1.Tie as tie
 
 returns : tie.Need-returns
-returns c = rw (one-written (c .args .order) (c .args .n) (c .fits .n .fits)) (stored (now (c .args .out)) (c .args .n ∷ []) (c .pre))
+returns c =
+    rw (one-written (c .args .order) (c .args .n) (c .fits .n .fits))
+    (stored (now (c .args .out)) (c .args .n ∷ []) (c .pre))
 
 -- ---- found by search
 

@@ -109,70 +109,20 @@ fn say_counts() {
     say_body(
         high,
         Kind::Pcr,
-        &[
-            2,
-            1,
-            0,
-            0,
-            1,
-            0xf1,
-            0,
-            0,
-            0,
-            5,
-            0,
-            0,
-            0,
-            11,
-            0,
-            0,
-            0,
-            0xd4,
-            0,
-            0,
-            1,
-            0xe1,
-        ],
+        b"\x02\x01\x00\x00\x01\xf1\x00\x00\x00\x05\x00\x00\x00\x0b\x00\x00\x00\xd4\x00\x00\x01\xe1",
     );
     say_body(
         low,
         Kind::Pcr,
-        &[
-            2,
-            1,
-            0xf1,
-            1,
-            0,
-            0,
-            5,
-            0,
-            0,
-            0,
-            11,
-            0,
-            0,
-            0,
-            0xd4,
-            0,
-            0,
-            0,
-            0xe1,
-            1,
-            0,
-            0,
-        ],
+        b"\x02\x01\xf1\x01\x00\x00\x05\x00\x00\x00\x0b\x00\x00\x00\xd4\x00\x00\x00\xe1\x01\x00\x00",
     );
-    say_body(high, Kind::Pcr, &[255, 255, 0, 0, 15, 0x88]);
+    say_body(high, Kind::Pcr, b"\xff\xff\x00\x00\x0f\x88");
     say_body(
         low,
         Kind::Pcr,
-        &[1, 1, 7, 0, 0, 0, 255, 255, 255, 255, 0, 0, 0, 0],
+        b"\x01\x01\x07\x00\x00\x00\xff\xff\xff\xff\x00\x00\x00\x00",
     );
-    say_body(
-        low,
-        Kind::Pcr,
-        &[1, 1, 255, 255, 255, 255, 254, 255, 255, 255],
-    );
+    say_body(low, Kind::Pcr, b"\x01\x01\xff\xff\xff\xff\xfe\xff\xff\xff");
 }
 
 fn say_bins() {
@@ -188,19 +138,19 @@ fn say_bins() {
         Kind::Sbr,
         b"\x01\x02\x00J\x00\x00\x00\x0eF\x12NOTIFY PRODUCT ENG",
     );
-    say_body(low, Kind::Sbr, &[255, 255, 1, 0, 66, 5, 0, 0, b'P', 0]);
-    say_body(low, Kind::Hbr, &[1, 1, 1, 0, 66, 5, 0, 0, b' ']);
-    say_body(low, Kind::Hbr, &[1, 1, 1, 0, 66, 5, 0, 0]);
+    say_body(low, Kind::Sbr, b"\xff\xff\x01\x00\x42\x05\x00\x00\x50\x00");
+    say_body(low, Kind::Hbr, b"\x01\x01\x01\x00\x42\x05\x00\x00\x20");
+    say_body(low, Kind::Hbr, b"\x01\x01\x01\x00\x42\x05\x00\x00");
 }
 
-pub fn say_all() {
+pub(crate) fn say_all() {
     say_counts();
     say_bins();
-    say_body(Order::LowFirst, Kind::Far, &[2, 4]);
-    say_body(Order::LowFirst, Kind::Pir, &[3, 9]);
-    say_body(Order::HighFirst, Kind::Prr, &[3, 9, 8, 0, 200, 1, 2]);
-    say_body(Order::LowFirst, Kind::Prr, &[3, 9, 8, 200, 0, 2, 1]);
-    say_body(Order::LowFirst, Kind::Mrr, &[1, 2, 3, 4]);
-    say_body(Order::LowFirst, Kind::Sdr, &[1, 2, 3]);
-    say_body(Order::LowFirst, Kind::Custom, &[1, 2, 3]);
+    say_body(Order::LowFirst, Kind::Far, b"\x02\x04");
+    say_body(Order::LowFirst, Kind::Pir, b"\x03\x09");
+    say_body(Order::HighFirst, Kind::Prr, b"\x03\x09\x08\x00\xc8\x01\x02");
+    say_body(Order::LowFirst, Kind::Prr, b"\x03\x09\x08\xc8\x00\x02\x01");
+    say_body(Order::LowFirst, Kind::Mrr, b"\x01\x02\x03\x04");
+    say_body(Order::LowFirst, Kind::Sdr, b"\x01\x02\x03");
+    say_body(Order::LowFirst, Kind::Custom, b"\x01\x02\x03");
 }

@@ -91,14 +91,14 @@ fn say_head(name: &[u8], kind: Kind, head: u8, body: &[u8]) {
 
 // Head 255 means all sites: the records that count take it, a part does not.
 fn say_heads() {
-    say_head(b"PIR", Kind::Pir, 254, &[254, 0]);
-    say_head(b"PIR", Kind::Pir, 255, &[255, 0]);
-    say_head(b"PCR", Kind::Pcr, 255, &[255, 0, 1, 0, 0, 0]);
-    say_head(b"HBR", Kind::Hbr, 255, &[255, 0, 1, 0, 1, 0, 0, 0]);
-    say_head(b"SBR", Kind::Sbr, 255, &[255, 0, 1, 0, 1, 0, 0, 0]);
+    say_head(b"PIR", Kind::Pir, 254, b"\xfe\x00");
+    say_head(b"PIR", Kind::Pir, 255, b"\xff\x00");
+    say_head(b"PCR", Kind::Pcr, 255, b"\xff\x00\x01\x00\x00\x00");
+    say_head(b"HBR", Kind::Hbr, 255, b"\xff\x00\x01\x00\x01\x00\x00\x00");
+    say_head(b"SBR", Kind::Sbr, 255, b"\xff\x00\x01\x00\x01\x00\x00\x00");
 }
 
-pub fn say_all() {
+pub(crate) fn say_all() {
     say_bins(b"HBR", Kind::Hbr, Order::HighFirst);
     say_bins(b"HBR", Kind::Hbr, Order::LowFirst);
     say_bins(b"SBR", Kind::Sbr, Order::HighFirst);
