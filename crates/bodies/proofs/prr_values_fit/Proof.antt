@@ -24,7 +24,8 @@ returns-3 c =
     let one = bits .before .before in
     let a = one .before .before .before .args in
     sym
-    (prr-high (a .order) (now (a .body)) _ (one .if1 .left) (bits .if2 .left) (c .before .u2-at .ensures) (c .if3 .taken))
+    (prr-high (a .order) (now (a .body)) _ (one .if1 .left) (bits .if2 .left) (c .before .u2-at .ensures)
+    (c .if3 .taken))
 
 returns-4 : tie.Need-returns-4
 returns-4 c =
