@@ -4,14 +4,12 @@
 --   placeOf, byteOf, valueOf   a field's place in a body, and what stands there
 --   farOf .. prrOf             what a body says, field by field
 --   readBody                   the reading of any body of any kind
---   readingAnswer              what a body that does not fit is refused with
+--   fitting, saidOf            whether a body fits, 7 where it does not, and what it says
 -- Assumes nothing.
 use Prim.Native.Nat.{ℕ}
 use mathlib.Core.Bool.{Bool, true, false, cond, _&&_}
 use mathlib.Core.List.{List}
 use lib.ListN.{getD}
-use Rattle.answers.specs.declared.Answer.{Answer}
-use Rattle.answers.specs.declared.Answer.the-variants.{Done, BodyMisfit}
 use Rattle.numbers.specs.declared.Order.{Order}
 use Rattle.numbers.specs.Numbers.{number, front}
 use Rattle.kinds.specs.declared.Kind.{Kind}
@@ -127,6 +125,11 @@ readBody order kind.Custom b = Fits body.Unread
 readBody order kind.Unknown b = Fits body.Unread
 
 -- 7: the body doesn't fit its kind
-abbrev pub readingAnswer : Reading → Answer
-readingAnswer (Fits r) = Done
-readingAnswer Misfit = BodyMisfit
+abbrev pub fitting : Reading → Bool
+fitting (Fits r) = true
+fitting Misfit = false
+
+-- what a body that fits says; asked only of one that does
+abbrev pub saidOf : Reading → Record
+saidOf (Fits r) = r
+saidOf Misfit = body.Unread

@@ -5,7 +5,7 @@
 --   hasType       whether a table has a type: "one of those eight"
 --   custom        which pairs beyond the table are custom
 --   kindOf        the kind of any pair
---   kindAnswer    what an unknown kind is refused with
+--   known         whether a kind is not unknown: 6 where it is
 -- Assumes nothing.
 use Prim.Native.Nat.{ℕ}
 use mathlib.Core.Bool.{Bool, true, false, cond, _&&_, _||_}
@@ -72,3 +72,20 @@ beyondTable typ sub = cond (custom typ sub) Custom Unknown
 
 unfoldable pub kindOf : ℕ → ℕ → Kind
 kindOf typ sub = named pairs typ sub (beyondTable typ sub)
+
+-- 6: unknown kind
+abbrev pub known : Kind → Bool
+known Far = true
+known Atr = true
+known Mir = true
+known Mrr = true
+known Pcr = true
+known Hbr = true
+known Sbr = true
+known Rdr = true
+known Sdr = true
+known Pir = true
+known Prr = true
+known (Remaining k) = true
+known Custom = true
+known Unknown = false

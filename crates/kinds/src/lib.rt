@@ -2,7 +2,7 @@
 ghost use mathlib.Core.Path.{_≡_};
 ghost use Prim.Native.Nat.{_<_};
 ghost use lib.ListN.{getD};
-ghost use Rattle.kinds.specs.Kinds.{pairs, noPair, hasType, beyondTable, kindOf};
+ghost use Rattle.kinds.specs.Kinds.{pairs, noPair, hasType, beyondTable, kindOf, known};
 
 // The kinds of STDF V4 whose bodies this house does not read and whose places within the body it does not judge.
 pub enum Remaining {
@@ -129,4 +129,26 @@ pub fn kind_of(typ: u8, sub: u8) -> Kind
         i += 1;
     }
     beyond(typ, sub)
+}
+
+// Whether a kind is known; where it is not, the refusal is 6.
+pub fn is_known(kind: Kind) -> bool
+    ensures { λ r. ⌜ r ≡ known kind ⌝ }
+{
+    match kind {
+        Kind::Unknown => false,
+        Kind::Far => true,
+        Kind::Atr => true,
+        Kind::Mir => true,
+        Kind::Mrr => true,
+        Kind::Pcr => true,
+        Kind::Hbr => true,
+        Kind::Sbr => true,
+        Kind::Rdr => true,
+        Kind::Sdr => true,
+        Kind::Pir => true,
+        Kind::Prr => true,
+        Kind::Remaining(_) => true,
+        Kind::Custom => true,
+    }
 }

@@ -9,11 +9,12 @@ use native.Mathlib.Omega.{arith}
 use borrow.Author.Tests.{le-ltb, ltb-false}
 use lib.Dec.{ltb}
 use lib.IntN.{ℤ, pos, negsuc, _-ℤ_}
-use lib.ListN.{length, getD, drop, length-drop, length-reverse}
-use lib.Seq.{sets, sets-eq, getD-drop, take-all}
+use lib.ListN.{length, getD, drop, length-reverse}
+use lib.Seq.{sets, sets-eq, getD-drop}
 use mir.Syntax.{w16}
 use mir.Val.{SFits, toZ, ofZ}
 use mir.Facts.{sfits-toZ, toZ-pos, toZ-ofZ}
+use Rattle.words.proofs.Parts.{part-from}
 use Rattle.numbers.specs.declared.Order.{Order}
 use Rattle.numbers.specs.declared.Order.the-variants.{HighFirst, LowFirst}
 use Rattle.numbers.specs.Numbers.{ordered, worth, number, front, bytes, written, over, past, signed}
@@ -84,8 +85,7 @@ front-drop-from (suc w) k j s = rw (getD-drop k s j 0, front-drop-from w k (suc 
 
 pub front-part : FrontPart
 front-part w k s =
-    ap (front w 0) (take-all (length s - k) (drop k s) (omega (arith, length-drop k s)))
-    ∙ front-drop-from w k 0 s
+    ap (front w 0) (part-from s k) ∙ front-drop-from w k 0 s
     ∙ rw (add-zero k)
 
 -- one byte is worth itself in either order

@@ -16,6 +16,7 @@ use Rattle.rising.specs.Rising.{risingFrom, rising, rank, held, allBelow
 use Rattle.rising.specs.Laws.{InsertWhole, InsertTaken, InsertLength, RemoveWhole, RemoveTaken, RemoveLength}
 use Rattle.rising.specs.Laws.{RankWithin, RankUp, RankDown, HeldAt, HeldPast, HeldRank, NewRank}
 use Rattle.rising.specs.Laws.{HeldInsert, HeldRemove, RisingInsert, RisingRemove, BelowInsert, BelowRemove}
+use Rattle.rising.specs.Laws.{BelowLast}
 
 -- ---- tests
 
@@ -274,6 +275,38 @@ below-insert b xs at k e h =
 pub below-remove : BelowRemove
 below-remove b xs at n e =
     rw (below-append b (take at xs) (drop (at + n) xs), below-parts b at xs e .0) (below-parts b (at + n) xs e .1)
+
+and-true : (t : Bool) → (t && true) ≡ t
+and-true true = refl
+and-true false = refl
+
+-- a test that holds whenever another does adds nothing to it
+and-weaker : (x last b : ℕ) → x < last → (ltb x b && ltb last b) ≡ ltb last b
+and-weaker x last b h =
+    side last b
+    (λ (l : last < b). rw (lt-ltb last b l, lt-ltb x b (omega arith)))
+    (λ (l : b ≤ last). rw (le-ltb last b l) (and-false (ltb x b)))
+  where
+    and-false : (t : Bool) → (t && false) ≡ false
+    and-false true = refl
+    and-false false = refl
+
+below-last-from : (b low x : ℕ) (xs : List ℕ) → risingFrom low (x ∷ xs) ≡ true
+    → allBelow b (x ∷ xs) ≡ ltb (getD (x ∷ xs) (length xs) 0) b
+unfolding allBelow
+below-last-from b low x [] e = and-true (ltb x b)
+below-last-from b low x (y ∷ ys) e =
+    let rest = rising-rest low x (y ∷ ys) e in
+    let last = getD (y ∷ ys) (length ys) 0 in
+    rw (below-last-from b (suc x) y ys rest)
+    (and-weaker x last b (rising-at (suc x) (y ∷ ys) (length ys) rest (omega arith)))
+
+pub below-last : BelowLast
+unfolding rising
+below-last b [] last e h = absurd (omega arith)
+below-last b (x ∷ xs) last e h =
+    let at : length xs ≡ last = omega arith in
+    below-last-from b 0 x xs e ∙ rw at
 
 -- ---- the list at the start of a longer one
 

@@ -5,7 +5,7 @@ use mathlib.Core.Path.{_≡_}
 use mathlib.Core.Bool.{true, false, not, _&&_, _||_}
 use mathlib.Core.List.{List, _++_}
 use Prim.Native.Nat.{ℕ, suc, _+_, _-_, _≤_, _<_}
-use lib.Dec.{eqb}
+use lib.Dec.{eqb, ltb}
 use lib.ListN.{length, getD, take, drop}
 use Rattle.rising.specs.Rising.{rising, rank, held, allBelow, inserted, removed, insertAt, removeAt}
 
@@ -101,3 +101,8 @@ BelowInsert = (b : ℕ) (xs : List ℕ) (at k : ℕ) → allBelow b xs ≡ true 
 -- and any run may be taken out
 abbrev pub BelowRemove : Type 0
 BelowRemove = (b : ℕ) (xs : List ℕ) (at n : ℕ) → allBelow b xs ≡ true → allBelow b (removed xs at n) ≡ true
+
+-- of a list that rises, the last element tells whether all are below a bound
+abbrev pub BelowLast : Type 0
+BelowLast = (b : ℕ) (xs : List ℕ) (last : ℕ) → rising xs ≡ true → length xs ≡ suc last
+    → allBelow b xs ≡ ltb (getD xs last 0) b

@@ -1,4 +1,5 @@
 pub mod Choice
 pub mod Once
+pub mod Parts
 pub mod Both
 pub mod Table

@@ -1,0 +1,59 @@
+-- What is shown of the order: statements only. Each is proved in proofs/Laws.antt, under its name in small letters.
+--
+--   before, ended   the places before the body, and the one after MRR
+--   opening         the kinds that may stand before the body
+-- Assumes nothing.
+use mathlib.Core.Path.{_≡_}
+use mathlib.Core.Bool.{Bool, true, false}
+use Rattle.kinds.specs.declared.Kind.{Kind}
+use Rattle.kinds.specs.declared.Kind.the-variants.{Far, Atr, Mir, Mrr, Pcr, Hbr, Sbr, Rdr, Sdr, Pir, Prr, Remaining}
+use Rattle.kinds.specs.declared.Kind.the-variants.{Custom, Unknown}
+use Rattle.order.specs.declared.Place.{Place}
+use Rattle.order.specs.declared.Place.the-variants.{Start, Header, Lot, Setup, Body, Ended}
+use Rattle.order.specs.declared.Step.the-variants.{To}
+use Rattle.order.specs.Order.{goes}
+
+abbrev pub before : Place → Bool
+before Start = true
+before Header = true
+before Lot = true
+before Setup = true
+before Body = false
+before Ended = false
+
+abbrev pub ended : Place → Bool
+ended Start = false
+ended Header = false
+ended Lot = false
+ended Setup = false
+ended Body = false
+ended Ended = true
+
+-- the kinds that may stand before the body
+abbrev pub opening : Kind → Bool
+opening Far = true
+opening Atr = true
+opening Mir = true
+opening Rdr = true
+opening Sdr = true
+opening Mrr = false
+opening Pcr = false
+opening Hbr = false
+opening Sbr = false
+opening Pir = false
+opening Prr = false
+opening (Remaining k) = false
+opening Custom = false
+opening Unknown = false
+
+-- a record that leaves a stream before its body is of a kind that may stand there
+abbrev pub BeforeByOpening : Type 0
+BeforeByOpening = (p q : Place) (k : Kind) → goes p k ≡ To q → before q ≡ true → opening k ≡ true
+
+-- only MRR ends a stream
+abbrev pub EndedByMrr : Type 0
+EndedByMrr = (p q : Place) (k : Kind) → goes p k ≡ To q → ended q ≡ true → k ≡ Mrr
+
+-- a stream that has its body behind it or is in it does not come before it again
+abbrev pub NeverBack : Type 0
+NeverBack = (p q : Place) (k : Kind) → goes p k ≡ To q → before q ≡ true → before p ≡ true

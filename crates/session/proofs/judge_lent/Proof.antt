@@ -1,0 +1,29 @@
+-- `session::judge_lent` meets its contract: the first record, or a later one.
+-- Assumes nothing.
+use mathlib.Core.Path.{sym, _∙_}
+use borrow.Author.Needs.{needs}
+use Rattle.session.proofs.Laws.{judge-at-start, judge-further}
+use Rattle.session.proofs.judge_lent.Statement.{statement}
+use Rattle.session.proofs.judge_lent.Tie as tie
+
+returns : tie.Need-returns
+returns c = c .judge-first .ensures ∙ sym (judge-at-start _ _ _ (sym (c .before .before .is-start .ensures) ∙ c .before .if1 .taken))
+
+returns-2 : tie.Need-returns-2
+returns-2 c = c .judge-later .ensures ∙ sym (judge-further _ _ _ (sym (c .before .before .is-start .ensures) ∙ c .before .if1 .left))
+
+-- ---- found by search
+
+is-start-requires : tie.Need-is-start-requires
+is-start-requires c κs = search needs
+
+judge-first-requires : tie.Need-judge-first-requires
+judge-first-requires c κs = search needs
+
+judge-later-requires : tie.Need-judge-later-requires
+judge-later-requires c κs = search needs
+
+pub judge-lent-spec : {M : Type 1} → statement M
+judge-lent-spec =
+    tie.close
+    (tie.spec is-start-requires judge-first-requires judge-later-requires returns returns-2)

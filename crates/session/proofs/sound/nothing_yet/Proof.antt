@@ -1,0 +1,18 @@
+-- `session::sound::nothing_yet` meets its contract: each return is one case of `nothingYet`.
+-- Assumes nothing.
+use mathlib.Core.Path.{sym}
+use Rattle.session.proofs.Laws.{yet-part, yet-pcr, yet-results}
+use Rattle.session.proofs.sound.nothing_yet.Statement.{statement}
+use Rattle.session.proofs.sound.nothing_yet.Tie as tie
+
+returns : tie.Need-returns
+returns c = sym (yet-part (c .before .before .args .st) (c .if1 .taken))
+
+returns-2 : tie.Need-returns-2
+returns-2 c = sym (yet-pcr (c .before .before .before .args .st) (c .before .if1 .left) (c .if2 .taken))
+
+returns-3 : tie.Need-returns-3
+returns-3 c = sym (yet-results (c .before .before .before .before .args .st) (c .before .before .if1 .left) (c .before .if2 .left))
+
+pub nothing-yet-spec : {M : Type 1} → statement M
+nothing-yet-spec = tie.close (tie.spec returns returns-2 returns-3)

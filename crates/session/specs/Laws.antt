@@ -1,0 +1,69 @@
+-- What is shown of a session: statements only, the laws by which a house uses the judgement, and never its text. Each
+-- is proved in proofs/Judgement.antt, under its name in small letters.
+--
+--   counted    how many part results a verdict counts, if its row is granted
+--   Within     that a part opens and closes among the open ones
+--   KeyRight   that a key is one of a row: head at most 254, bin at most 32,767
+-- Assumes nothing.
+use mathlib.Core.Path.{_≡_}
+use mathlib.Core.Bool.{true}
+use mathlib.Core.List.{List}
+use Prim.Native.Nat.{ℕ, _+_, _/_, _%_, _≤_, _<_}
+use lib.ListN.{length}
+use Rattle.numbers.specs.Laws.{Bytes}
+use Rattle.session.specs.declared.Session.{Session}
+use Rattle.session.specs.declared.Standing.{Standing}
+use Rattle.session.specs.declared.Verdict.{Verdict}
+use Rattle.session.specs.declared.Verdict.the-variants.{Refused, Taken, Opened, Wanted}
+use Rattle.session.specs.Session.{mostOpen, pastParts, begun, sound, Kept}
+use Rattle.session.specs.After.{after, verdictOn}
+
+abbrev pub counted : Verdict → ℕ
+counted (Refused a) = 0
+counted (Taken st) = 0
+counted (Opened st rank part) = 0
+counted (Wanted st rank key) = 1
+
+abbrev pub Within : ℕ → Verdict → Type 0
+Within opened (Refused a) = Unit
+Within opened (Taken st) = Unit
+Within opened (Opened st rank part) = (rank ≤ opened) × (opened < mostOpen)
+Within opened (Wanted st rank key) = rank + 1 ≤ opened
+
+abbrev pub KeyRight : Verdict → Type 0
+KeyRight (Refused a) = Unit
+KeyRight (Taken st) = Unit
+KeyRight (Opened st rank part) = Unit
+KeyRight (Wanted st rank key) = (key / 65536 < pastParts) × (key % 65536 ≤ 32767)
+
+-- a session's parts may be lent where it is sound
+abbrev pub SoundKept : Type 0
+SoundKept = (s : Session) → length (s .parts) ≡ mostOpen → sound s ≡ true → Kept (s .standing) (s .parts)
+
+-- a part opens and closes among the open ones
+abbrev pub JudgedWithin : Type 0
+JudgedWithin = (s : Session) (rec : List ℕ) → length (s .parts) ≡ mostOpen → sound s ≡ true
+    → Within (s .standing .opened) (verdictOn s rec)
+
+-- a sound session stays sound, whatever bytes are delivered to it
+abbrev pub JudgedSound : Type 0
+JudgedSound = (s : Session) (rec : List ℕ) → Bytes rec → length (s .parts) ≡ mostOpen → sound s ≡ true
+    → sound (after s (verdictOn s rec)) ≡ true
+
+-- its accepted PRRs are one more just where a part result was accepted
+abbrev pub JudgedCounts : Type 0
+JudgedCounts = (s : Session) (rec : List ℕ)
+    → after s (verdictOn s rec) .standing .results ≡ s .standing .results + counted (verdictOn s rec)
+
+-- a row is asked for under a key that a row may have
+abbrev pub JudgedKey : Type 0
+JudgedKey = (s : Session) (rec : List ℕ) → Bytes rec → KeyRight (verdictOn s rec)
+
+-- the cells of a session's parts stay as many
+abbrev pub JudgedLong : Type 0
+JudgedLong = (s : Session) (rec : List ℕ) → length (s .parts) ≡ mostOpen → sound s ≡ true
+    → length (after s (verdictOn s rec) .parts) ≡ mostOpen
+
+-- a session that has followed nothing is sound
+abbrev pub BegunSound : Type 0
+BegunSound = sound begun ≡ true

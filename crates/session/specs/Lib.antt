@@ -1,0 +1,4 @@
+pub mod Session
+pub mod Judge
+pub mod After
+pub mod Laws
