@@ -212,19 +212,19 @@ opened-long : (s : Session) → length (s .parts) ≡ mostOpen → sound s ≡ t
 opened-long s long e = length-take-le (s .standing .opened) (s .parts) (omega (arith, sound-parts-told s e .few))
 
 pub judged-within : JudgedWithin
-judged-within s rec long e =
-    judge-cases (Within (s .standing .opened)) (λ a. tt) (s .standing) (partsOf s) rec (λ order h. tt)
-    (λ k q r h f.
-    said-cases (Within (s .standing .opened)) (λ a. tt) (at (s .standing) q) (partsOf s) r (λ t. tt) (λ p t. tt)
-    (λ p t new few.
-    (omega (arith, rank-within (partOf (p .head) (p .site)) (partsOf s), opened-long s long e), few))
-    (λ p t there few.
-    omega (
-      arith,
-      held-rank (partOf (p .head) (p .site)) (partsOf s) (sound-parts-told s e .rises) there .0,
-      opened-long s long e,
-    ))
+judged-within st cells rec k =
+    judge-cases (Within (st .opened)) (λ a. tt) st parts rec (λ order h. tt)
+    (λ kind q r h f.
+    said-cases (Within (st .opened)) (λ a. tt) (at st q) parts r (λ t. tt) (λ p t. tt)
+    (λ p t new few. (omega (arith, rank-within (partOf (p .head) (p .site)) parts, long), few))
+    (λ p t there few. omega (arith, held-rank (partOf (p .head) (p .site)) parts (k .rises) there .0, long))
     (λ t done. tt))
+  where
+    parts : List ℕ
+    parts = take (st .opened) cells
+
+    long : length parts ≡ st .opened
+    long = length-take-le (st .opened) cells (k .within)
 
 -- ---- how many part results are counted
 

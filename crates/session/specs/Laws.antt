@@ -9,13 +9,14 @@ use mathlib.Core.Path.{_≡_}
 use mathlib.Core.Bool.{true}
 use mathlib.Core.List.{List}
 use Prim.Native.Nat.{ℕ, _+_, _/_, _%_, _≤_, _<_}
-use lib.ListN.{length}
+use lib.ListN.{length, take}
 use Rattle.numbers.specs.Laws.{Bytes}
 use Rattle.session.specs.declared.Session.{Session}
 use Rattle.session.specs.declared.Standing.{Standing}
 use Rattle.session.specs.declared.Verdict.{Verdict}
 use Rattle.session.specs.declared.Verdict.the-variants.{Refused, Taken, Opened, Wanted}
 use Rattle.session.specs.Session.{mostOpen, pastParts, begun, sound, Kept}
+use Rattle.session.specs.Judge.{judge}
 use Rattle.session.specs.After.{after, verdictOn}
 
 abbrev pub counted : Verdict → ℕ
@@ -42,8 +43,8 @@ SoundKept = (s : Session) → length (s .parts) ≡ mostOpen → sound s ≡ tru
 
 -- a part opens and closes among the open ones
 abbrev pub JudgedWithin : Type 0
-JudgedWithin = (s : Session) (rec : List ℕ) → length (s .parts) ≡ mostOpen → sound s ≡ true
-    → Within (s .standing .opened) (verdictOn s rec)
+JudgedWithin = (st : Standing) (cells rec : List ℕ) → Kept st cells
+    → Within (st .opened) (judge st (take (st .opened) cells) rec)
 
 -- a sound session stays sound, whatever bytes are delivered to it
 abbrev pub JudgedSound : Type 0

@@ -26,7 +26,7 @@ pub fn parts_right(opened: usize, parts: &[u64; 32]) -> bool
     false
 }
 
-fn nothing_yet(st: Standing) -> bool
+pub fn nothing_yet(st: Standing) -> bool
     ensures { λ r. ⌜ r ≡ nothingYet st ⌝ }
 {
     if st.opened != 0 {

@@ -31,7 +31,7 @@ settle-requires c κs =
     let s = start .args .session in (
       sound-parts-told s (sounded fine) .few,
       subst (Within (s .standing .opened)) (sym (c .judge-cells .ensures))
-          (judged-within s (now (start .args .rec)) (long start) (sounded fine)),
+          (judged-within (s .standing) (s .parts) (now (start .args .rec)) (sound-kept s (long start) (sounded fine))),
     )
 
 returns : tie.Need-returns

@@ -1,0 +1,205 @@
+-- Laws of the house's definitions, as the functions' proofs cite them.
+-- Assumes nothing.
+use mathlib.Core.Path.{_≡_, refl, ap, sym, _∙_}
+use mathlib.Core.Bool.{Bool, true, false, cond, _&&_}
+use mathlib.Core.List.{List, [], _∷_, _++_, map}
+use Prim.Native.Nat.{ℕ, zero, suc, _+_, _-_, _≤_, _<_}
+use native.Mathlib.Nat.{add-assoc}
+use native.Mathlib.Numerals.{add-one}
+use native.Mathlib.Omega.{arith}
+use borrow.Author.Tests.{le-leb, lt-leb, leb-true, eqb-true, eq-eqb, ne-eqb}
+use lib.Dec.{eqb, leb}
+use lib.ListN.{length, getD, take, drop, set, drop-of-length-le, length-map, List·getD-map}
+use lib.Seq.{drop-cons, take-suc-set, take-suc}
+use Rattle.words.proofs.Both.{both-left, both-right}
+use Rattle.rising.specs.Rising.{rising}
+use Rattle.rows.specs.Rows.{heldBy, sumBy, rowsRight, Kept}
+use Rattle.session.specs.Session as session
+use Rattle.session.specs.Session.{nothingYet}
+use Rattle.house.specs.declared.Slot.{Slot}
+use Rattle.house.specs.declared.House.{House}
+use Rattle.house.specs.House.{rowCount, keysOf, countsOf, free, unfilled, promisedFrom, promised, floorsLow}
+use Rattle.house.specs.House.{takenOf, rowsSound, slotSound, slotsSound, sound, LentKeys, Lent}
+
+-- ---- rows promised
+
+module _ (i : ℕ) (s : Slot) (keys : List ℕ) where
+  pub unfilled-closed : s .taken ≡ false → unfilled i s keys ≡ 0
+  unfolding unfilled
+  unfilled-closed e = rw e
+
+  module _ (open-there : s .taken ≡ true) (held : ℕ) (is : held ≡ heldBy i keys) where
+    pub unfilled-none : s .floor < held → unfilled i s keys ≡ 0
+    unfolding unfilled
+    unfilled-none h = rw (open-there, ← is) (omega arith)
+
+    pub unfilled-some : held ≤ s .floor → unfilled i s keys ≡ s .floor - held
+    unfolding unfilled
+    unfilled-some h = rw (open-there, ← is)
+
+  pub unfilled-low : s .floor ≤ rowCount → unfilled i s keys ≤ rowCount
+  unfolding unfilled
+  unfilled-low h = go (s .taken)
+    where
+      go : (t : Bool) → cond t (s .floor - heldBy i keys) 0 ≤ rowCount
+      go true = omega arith
+      go false = omega arith
+
+module _ (slots : List Slot) (keys : List ℕ) (i : ℕ) (none : Slot) where
+  pub promised-on : i < length slots
+      → promisedFrom i (drop i slots) keys
+      ≡ unfilled i (getD slots i none) keys + promisedFrom (i + 1) (drop (i + 1) slots) keys
+  unfolding promisedFrom
+  promised-on h = rw (drop-cons slots i none h, add-one i)
+
+  pub promised-none : length slots ≤ i → promisedFrom i (drop i slots) keys ≡ 0
+  unfolding promisedFrom
+  promised-none h = rw (drop-of-length-le slots {i = i} h)
+
+pub floor-at : (slots : List Slot) (i : ℕ) (none : Slot) → floorsLow slots ≡ true → i < length slots
+    → getD slots i none .floor ≤ rowCount
+unfolding floorsLow
+floor-at [] i none e h = absurd (omega arith)
+floor-at (s ∷ ss) zero none e h =
+    leb-true (s .floor) rowCount (both-left (leb (s .floor) rowCount) (floorsLow ss) e)
+floor-at (s ∷ ss) (suc i) none e h =
+    floor-at ss i none (both-right (leb (s .floor) rowCount) (floorsLow ss) e) (omega arith)
+
+-- ---- which slots are open
+
+-- the first i cells tell, and those behind are still to be told
+pub taken-on : (slots : List Slot) (cells : List Bool) (i : ℕ) (none : Slot) → i < length slots → i < length cells
+    → take i cells ≡ take i (takenOf slots)
+    → take (i + 1) (set cells i (getD slots i none .taken)) ≡ take (i + 1) (takenOf slots)
+taken-on slots cells i none h g e =
+    let told : i < length (takenOf slots) = rw (length-map slots (λ (s : Slot). s .taken)) h in
+    rw (
+      add-one i,
+      take-suc-set cells i (getD slots i none .taken) g,
+      take-suc (takenOf slots) i (none .taken) told,
+      List·getD-map (λ (s : Slot). s .taken) slots i none,
+      e,
+    )
+
+-- ---- soundness, slot by slot
+
+module _ (i : ℕ) (s : Slot) (keys counts : List ℕ) where
+  module _ (shut : s .taken ≡ false) where
+    pub shut-floor : (s .floor ≡ 0 → ⊥) → slotSound i s keys counts ≡ false
+    unfolding slotSound
+    shut-floor h = rw (shut, ne-eqb (s .floor) 0 h)
+
+    pub shut-nothing : s .floor ≡ 0 → slotSound i s keys counts ≡ nothingYet (s .session .standing)
+    unfolding slotSound
+    shut-nothing h = rw (shut, eq-eqb (s .floor) 0 h)
+
+  module _ (open-there : s .taken ≡ true) where
+    pub open-floor : rowCount < s .floor → slotSound i s keys counts ≡ false
+    unfolding slotSound
+    open-floor h = rw (open-there, lt-leb (s .floor) rowCount h)
+
+    module _ (low : s .floor ≤ rowCount) where
+      pub open-session : session.sound (s .session) ≡ false → slotSound i s keys counts ≡ false
+      unfolding slotSound
+      open-session e = rw (open-there, le-leb (s .floor) rowCount low, e)
+
+      pub open-sum : session.sound (s .session) ≡ true
+          → slotSound i s keys counts ≡ eqb (sumBy i keys counts) (s .session .standing .results)
+      unfolding slotSound
+      open-sum e = rw (open-there, le-leb (s .floor) rowCount low, e)
+
+module _ (slots : List Slot) (keys counts : List ℕ) (i : ℕ) (none : Slot) where
+  module _ (h : i < length slots) where
+    pub slots-on : slotSound i (getD slots i none) keys counts ≡ true
+        → slotsSound i (drop i slots) keys counts ≡ slotsSound (i + 1) (drop (i + 1) slots) keys counts
+    unfolding slotsSound
+    slots-on e = rw (drop-cons slots i none h, e, add-one i)
+
+    pub slots-not : slotSound i (getD slots i none) keys counts ≡ false
+        → slotsSound i (drop i slots) keys counts ≡ false
+    unfolding slotsSound
+    slots-not e = rw (drop-cons slots i none h, e)
+
+  pub slots-done : length slots ≤ i → slotsSound i (drop i slots) keys counts ≡ true
+  unfolding slotsSound
+  slots-done h = rw (drop-of-length-le slots {i = i} h)
+
+-- sound slots have floors of at most 1,024
+slot-floor : (i : ℕ) (s : Slot) (keys counts : List ℕ) → slotSound i s keys counts ≡ true → s .floor ≤ rowCount
+unfolding slotSound
+slot-floor i s keys counts e = go (s .taken) e
+  where
+    go : (t : Bool)
+        → cond t
+        (leb (s .floor) rowCount
+        && (session.sound (s .session) && eqb (sumBy i keys counts) (s .session .standing .results)))
+        (eqb (s .floor) 0 && nothingYet (s .session .standing))
+        ≡ true
+        → s .floor ≤ rowCount
+    go true f =
+        leb-true (s .floor) rowCount
+        (both-left (leb (s .floor) rowCount)
+        (session.sound (s .session) && eqb (sumBy i keys counts) (s .session .standing .results)) f)
+    go false f =
+        omega (arith, eqb-true (s .floor) 0 (both-left (eqb (s .floor) 0) (nothingYet (s .session .standing)) f))
+
+pub floors-low : (i : ℕ) (slots : List Slot) (keys counts : List ℕ) → slotsSound i slots keys counts ≡ true
+    → floorsLow slots ≡ true
+unfolding slotsSound floorsLow
+floors-low i [] keys counts e = refl
+floors-low i (s ∷ ss) keys counts e =
+    let here = both-left (slotSound i s keys counts) (slotsSound (suc i) ss keys counts) e in
+    rw (le-leb (s .floor) rowCount (slot-floor i s keys counts here))
+    (floors-low (suc i) ss keys counts
+    (both-right (slotSound i s keys counts) (slotsSound (suc i) ss keys counts) e))
+
+module _ (taken : List Bool) (keys counts : List ℕ) where
+  pub rows-fall : rising keys ≡ false → rowsSound taken keys counts ≡ false
+  unfolding rowsSound
+  rows-fall e = rw e
+
+  pub rows-rise : rising keys ≡ true → rowsSound taken keys counts ≡ rowsRight taken keys counts
+  unfolding rowsSound
+  rows-rise e = rw e
+
+-- ---- soundness, whole
+
+module _ (h : House) where
+  pub sound-many : rowCount < h .used → sound h ≡ false
+  unfolding sound
+  sound-many g = rw (lt-leb (h .used) rowCount g)
+
+  module _ (within : h .used ≤ rowCount) where
+    pub sound-rows : rowsSound (takenOf (h .slots)) (keysOf h) (countsOf h) ≡ false → sound h ≡ false
+    unfolding sound
+    sound-rows e = rw (le-leb (h .used) rowCount within, e)
+
+    module _ (rows : rowsSound (takenOf (h .slots)) (keysOf h) (countsOf h) ≡ true) where
+      pub sound-slots : slotsSound 0 (h .slots) (keysOf h) (countsOf h) ≡ false → sound h ≡ false
+      unfolding sound
+      sound-slots e = rw (le-leb (h .used) rowCount within, rows, e)
+
+      pub sound-rooms : slotsSound 0 (h .slots) (keysOf h) (countsOf h) ≡ true
+          → sound h ≡ leb (promised h) (free h)
+      unfolding sound
+      sound-rooms e = rw (le-leb (h .used) rowCount within, rows, e)
+
+-- ---- what is lent
+
+pub lent-kept : (keys counts : List ℕ) (used : ℕ) → Lent keys counts used → Kept keys counts used
+lent-kept keys counts used l = record { fits = omega (arith, l .long, l .within); paired = l .paired ∙ sym (l .long); rises = l .rises }
+
+pub lent-keys : (keys counts : List ℕ) (used : ℕ) → Lent keys counts used → LentKeys keys used
+lent-keys keys counts used l = record { long = l .long; within = l .within; rises = l .rises }
+
+-- the rows that a house with sound rows lends
+pub lent-of : (h : House) → length (h .keys) ≡ rowCount → length (h .counts) ≡ rowCount → h .used ≤ rowCount
+    → rowsSound (takenOf (h .slots)) (keysOf h) (countsOf h) ≡ true → Lent (h .keys) (h .counts) (h .used)
+unfolding rowsSound
+lent-of h long paired within e =
+    record {
+      long = long;
+      paired = paired;
+      within = within;
+      rises = both-left (rising (keysOf h)) (rowsRight (takenOf (h .slots)) (keysOf h) (countsOf h)) e;
+    }

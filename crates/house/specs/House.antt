@@ -1,0 +1,115 @@
+-- The house, its slots and its rows. Document 01, the section of that name.
+--
+--   closedSlot, openedSlot, fresh   a slot that holds nothing, one just opened, a house of the first alone
+--   keysOf, countsOf                the rows in use
+--   free, promised                  how many rows no session holds, and how many are still owed
+--   sound                           document 01's conditions on a sound house
+-- Assumes nothing.
+use Prim.Native.Nat.{ℕ, suc, _+_, _-_, _≤_}
+use mathlib.Core.Path.{_≡_}
+use mathlib.Core.Bool.{Bool, true, false, cond, _&&_}
+use mathlib.Core.List.{List, [], _∷_, map}
+use lib.Dec.{leb, eqb}
+use lib.ListN.{length, take, getD, replicate}
+use Rattle.rising.specs.Rising.{rising}
+use Rattle.rows.specs.Rows.{slotCount, heldBy, sumBy, rowsRight}
+use Rattle.session.specs.Session as session
+use Rattle.session.specs.Session.{begun, nothingYet}
+use Rattle.house.specs.declared.Slot.{Slot}
+use Rattle.house.specs.declared.House.{House}
+
+-- a house has 16 slots and 1,024 rows; a floor is 0 to 1,024
+abbrev pub rowCount : ℕ
+rowCount = 1024
+
+-- a closed slot holds nothing
+abbrev pub closedSlot : Slot
+closedSlot = record { taken = false; floor = 0; session = begun }
+
+-- a slot opened starts anew
+abbrev pub openedSlot : ℕ → Slot
+openedSlot floor = record { taken = true; floor = floor; session = begun }
+
+-- what stands past the last slot
+abbrev pub noSlot : Slot
+noSlot = record { taken = false; floor = 0; session = record { standing = begun .standing; parts = [] } }
+
+-- a fresh house has no open slot and 1,024 free rows
+abbrev pub fresh : House
+fresh =
+    record {
+      keys = replicate rowCount 0;
+      counts = replicate rowCount 0;
+      used = 0;
+      slots = replicate slotCount closedSlot;
+    }
+
+abbrev pub keysOf : House → List ℕ
+keysOf h = take (h .used) (h .keys)
+
+abbrev pub countsOf : House → List ℕ
+countsOf h = take (h .used) (h .counts)
+
+-- Free is 1,024 less all rows held
+abbrev pub free : House → ℕ
+free h = rowCount - h .used
+
+-- Promised is the sum, over open slots, of floor less rows held where that is above zero: `_-_` stops at 0
+unfoldable pub unfilled : ℕ → Slot → List ℕ → ℕ
+unfilled i s keys = cond (s .taken) (s .floor - heldBy i keys) 0
+
+unfoldable pub promisedFrom : ℕ → List Slot → List ℕ → ℕ
+promisedFrom i [] keys = 0
+promisedFrom i (s ∷ ss) keys = unfilled i s keys + promisedFrom (suc i) ss keys
+
+abbrev pub promised : House → ℕ
+promised h = promisedFrom 0 (h .slots) (keysOf h)
+
+-- floors are at most 1,024
+unfoldable pub floorsLow : List Slot → Bool
+floorsLow [] = true
+floorsLow (s ∷ ss) = leb (s .floor) rowCount && floorsLow ss
+
+-- ---- a sound house
+
+abbrev pub takenOf : List Slot → List Bool
+takenOf slots = map (λ (s : Slot). s .taken) slots
+
+-- each row is free or held by one open slot, keys differ: they rise, and each begins with its slot
+unfoldable pub rowsSound : List Bool → List ℕ → List ℕ → Bool
+rowsSound taken keys counts = rising keys && rowsRight taken keys counts
+
+-- an open slot: its floor at most 1,024, its session sound, its counts the sum of its accepted PRRs, which no u32 exceeds;
+-- a closed slot holds nothing
+unfoldable pub slotSound : ℕ → Slot → List ℕ → List ℕ → Bool
+slotSound i s keys counts =
+    cond (s .taken)
+    (leb (s .floor) rowCount
+    && (session.sound (s .session) && eqb (sumBy i keys counts) (s .session .standing .results)))
+    (eqb (s .floor) 0 && nothingYet (s .session .standing))
+
+unfoldable pub slotsSound : ℕ → List Slot → List ℕ → List ℕ → Bool
+slotsSound i [] keys counts = true
+slotsSound i (s ∷ ss) keys counts = slotSound i s keys counts && slotsSound (suc i) ss keys counts
+
+-- .. and free is at least promised
+unfoldable pub sound : House → Bool
+sound h =
+    leb (h .used) rowCount
+    && (rowsSound (takenOf (h .slots)) (keysOf h) (countsOf h)
+    && (slotsSound 0 (h .slots) (keysOf h) (countsOf h) && leb (promised h) (free h)))
+
+-- ---- what is lent
+
+-- the keys of a sound house
+pub record LentKeys (keys : List ℕ) (used : ℕ) : Type 0 where
+  pub long : length keys ≡ rowCount
+  pub within : used ≤ rowCount
+  pub rises : rising (take used keys) ≡ true
+
+-- .. and its counts
+pub record Lent (keys counts : List ℕ) (used : ℕ) : Type 0 where
+  pub long : length keys ≡ rowCount
+  pub paired : length counts ≡ rowCount
+  pub within : used ≤ rowCount
+  pub rises : rising (take used keys) ≡ true

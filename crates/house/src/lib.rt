@@ -1,0 +1,106 @@
+// The house: document 01, "The house, its slots and its rows". Sessions draw rows from one pool, and each has a floor of
+// rows that nothing another session does can take. Every call takes a house by value and gives one back, tests its
+// soundness and answers, whatever is handed in.
+mod calls;
+mod core;
+mod rooms;
+mod sound;
+
+use answers::Answer;
+use session::Session;
+use session::Standing;
+ghost use mathlib.Core.Path.{_≡_};
+ghost use Rattle.house.specs.House.{closedSlot, openedSlot, fresh};
+pub use sound::is_sound;
+
+// A slot: closed, or a session with its floor.
+pub struct Slot {
+    pub taken: bool,
+    pub floor: u32,
+    pub session: Session,
+}
+
+// The rows in use stand first in both arrays, their keys rising: slot, head, site and bin in one number.
+pub struct House {
+    pub keys: [u64; 1024],
+    pub counts: [u64; 1024],
+    pub used: usize,
+    pub slots: [Slot; 16],
+}
+
+// The answer of a call, and the house after it.
+pub struct Answered {
+    pub answer: Answer,
+    pub house: House,
+}
+
+// The answer of the operator's call, and its figures: 0 where it is refused.
+pub struct Figures {
+    pub answer: Answer,
+    pub free: u32,
+    pub promised: u32,
+}
+
+// What a slot sees of the house: its number, its floor, and the rows that are promised to all other slots.
+pub struct Room {
+    pub slot: usize,
+    pub floor: u32,
+    pub others: u32,
+}
+
+// What a record did: the answer, how many rows are in use, and the session's standing.
+pub struct Delivered {
+    pub answer: Answer,
+    pub used: usize,
+    pub standing: Standing,
+}
+
+// Whether a part result got its row: how many rows are in use once it is counted, or none.
+pub enum Granting {
+    Rows(usize),
+    NoRoom,
+}
+
+impl Slot {
+    fn closed() -> Slot
+        ensures { λ r. ⌜ r ≡ closedSlot ⌝ }
+    {
+        let session = Session::begin();
+        Slot {
+            taken: false,
+            floor: 0,
+            session,
+        }
+    }
+
+    fn opened(floor: u32) -> Slot
+        ensures { λ r. ⌜ r ≡ openedSlot floor ⌝ }
+    {
+        let session = Session::begin();
+        Slot {
+            taken: true,
+            floor,
+            session,
+        }
+    }
+}
+
+impl House {
+    pub const ROWS: usize = 1024;
+
+    pub const SLOTS: usize = 16;
+
+    // A house with no open slot and every row free.
+    pub fn fresh() -> House
+        ensures { λ r. ⌜ r ≡ fresh ⌝ }
+    {
+        let slot = Slot::closed();
+        let slots = [slot; 16];
+        House {
+            keys: [0; 1024],
+            counts: [0; 1024],
+            used: 0,
+            slots,
+        }
+    }
+}
