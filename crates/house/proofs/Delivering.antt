@@ -84,7 +84,8 @@ countable room keys counts used at key l ranked e =
           let counts-long = length-take-le used counts (omega (arith, l .lent .paired, l .lent .within)) in
           let low = below-at pastCounts (take used counts) at (l .low) (omega (arith, counts-long)) in
           omega (arith, rw (getD-take used counts at 0 at-used) at low);
-      room = λ new. omega (arith, granted-room room keys counts used key l e new, l .lent .long) }
+      room = λ new. omega (arith, granted-room room keys counts used key l e new, l .lent .long);
+    }
 
 -- ---- a row for a part result
 

@@ -15,7 +15,7 @@ use Rattle.words.proofs.Both.{both-left, both-right}
 use Rattle.rising.specs.Rising.{rising}
 use Rattle.rows.specs.Rows.{heldBy, sumBy, rowsRight, Kept}
 use Rattle.session.specs.Session as session
-use Rattle.session.specs.Session.{nothingYet}
+use Rattle.session.specs.Session.{nothingYet, mostResults}
 use Rattle.house.specs.declared.Slot.{Slot}
 use Rattle.house.specs.declared.House.{House}
 use Rattle.house.specs.House.{rowCount, keysOf, countsOf, free, unfilled, promisedFrom, promised, floorsLow}
@@ -103,10 +103,10 @@ module _ (i : ℕ) (s : Slot) (keys counts : List ℕ) where
       unfolding slotSound
       open-session e = rw (open-there, le-leb (s .floor) rowCount low, e)
 
-      pub open-sum : session.sound (s .session) ≡ true
+      pub open-sum : session.sound (s .session) ≡ true → s .session .standing .results ≤ mostResults
           → slotSound i s keys counts ≡ eqb (sumBy i keys counts) (s .session .standing .results)
       unfolding slotSound
-      open-sum e = rw (open-there, le-leb (s .floor) rowCount low, e)
+      open-sum e few = rw (open-there, le-leb (s .floor) rowCount low, e, le-leb (s .session .standing .results) mostResults few)
 
 module _ (slots : List Slot) (keys counts : List ℕ) (i : ℕ) (none : Slot) where
   module _ (h : i < length slots) where
@@ -132,14 +132,18 @@ slot-floor i s keys counts e = go (s .taken) e
     go : (t : Bool)
         → cond t
         (leb (s .floor) rowCount
-        && (session.sound (s .session) && eqb (sumBy i keys counts) (s .session .standing .results)))
+        && (session.sound (s .session)
+        && (leb (s .session .standing .results) mostResults
+        && eqb (sumBy i keys counts) (s .session .standing .results))))
         (eqb (s .floor) 0 && nothingYet (s .session .standing))
         ≡ true
         → s .floor ≤ rowCount
     go true f =
         leb-true (s .floor) rowCount
         (both-left (leb (s .floor) rowCount)
-        (session.sound (s .session) && eqb (sumBy i keys counts) (s .session .standing .results)) f)
+        (session.sound (s .session)
+        && (leb (s .session .standing .results) mostResults
+        && eqb (sumBy i keys counts) (s .session .standing .results))) f)
     go false f =
         omega (arith, eqb-true (s .floor) 0 (both-left (eqb (s .floor) 0) (nothingYet (s .session .standing)) f))
 

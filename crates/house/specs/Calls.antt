@@ -1,1 +1,107 @@
--- x
+-- The calls. Document 01, "The house, its slots and its rows", Calls, and "Refusal numbers", Order of checks.
+--
+--   openSlot, deliver, closeSlot, figuresOf   what each call answers, and the house after it
+-- Assumes nothing.
+use Prim.Native.Nat.{ℕ, _-_}
+use mathlib.Core.Bool.{not}
+use mathlib.Core.List.{List}
+use lib.Dec.{leb, ltb}
+use lib.ListN.{getD, set}
+use Rattle.words.specs.Choice.{_unless_then_}
+use Rattle.answers.specs.declared.Answer.{Answer}
+use Rattle.answers.specs.declared.Answer.the-variants.{Done, NoSuchSlot, SlotTaken, SlotClosed, NoRoom, NotSound}
+use Rattle.answers.specs.declared.Answer.the-variants.{FloorTooHigh}
+use Rattle.rows.specs.Rows.{slotCount, slotDropped}
+use Rattle.house.specs.declared.Slot.{Slot}
+use Rattle.house.specs.declared.House.{House}
+use Rattle.house.specs.declared.Room.{Room}
+use Rattle.house.specs.declared.Answered.{Answered}
+use Rattle.house.specs.declared.Figures.{Figures}
+use Rattle.house.specs.House.{rowCount, noSlot, closedSlot, openedSlot, keysOf, free, unfilled, promised, sound}
+use Rattle.house.specs.Deliver.{Outcome, core, delivered}
+
+abbrev pub slotAt : House → ℕ → Slot
+slotAt h slot = getD (h .slots) slot noSlot
+
+abbrev pub withSlot : House → ℕ → Slot → House
+withSlot h slot s =
+    record { keys = h .keys; counts = h .counts; used = h .used; slots = set (h .slots) slot s }
+
+abbrev pub answered : Answer → House → Answered
+answered a h = record { answer = a; house = h }
+
+-- Order of checks, Open: 15, 1, 16, 2, 13; granted exactly if floor is at most free less promised
+unfoldable pub openSlot : House → ℕ → ℕ → Answered
+openSlot h slot floor =
+    answered NotSound h unless sound h then
+    answered NoSuchSlot h unless ltb slot slotCount then
+    answered FloorTooHigh h unless leb floor rowCount then
+    answered SlotTaken h unless not (slotAt h slot .taken) then
+    answered NoRoom h unless leb floor (free h - promised h) then
+    answered Done (withSlot h slot (openedSlot floor))
+
+-- Close: every row returns to free, at any place in the stream
+abbrev pub closed : House → ℕ → House
+closed h slot =
+    let rows = slotDropped (h .keys) (h .counts) (h .used) slot in
+    record {
+      keys = rows .keys;
+      counts = rows .counts;
+      used = rows .used;
+      slots = set (h .slots) slot closedSlot;
+    }
+
+-- Order of checks, Close: 15, 1, 2
+unfoldable pub closeSlot : House → ℕ → Answered
+closeSlot h slot =
+    answered NotSound h unless sound h then
+    answered NoSuchSlot h unless ltb slot slotCount then
+    answered SlotClosed h unless slotAt h slot .taken then
+    answered Done (closed h slot)
+
+-- what a slot sees of the house: its floor, and the rows promised to all others
+abbrev pub roomOf : House → ℕ → Room
+roomOf h slot =
+    record {
+      slot = slot;
+      floor = slotAt h slot .floor;
+      others = promised h - unfilled slot (slotAt h slot) (keysOf h);
+    }
+
+-- what a record does to a slot's session and to the rows
+abbrev pub deliveredTo : House → ℕ → List ℕ → Outcome
+deliveredTo h slot rec =
+    let s = slotAt h slot in
+    delivered (roomOf h slot) (core (h .keys) (h .counts) (h .used) (s .session .standing) (s .session .parts)) rec
+
+-- the house with what a record made of a slot's session and of the rows
+abbrev pub withOutcome : House → ℕ → Outcome → Answered
+withOutcome h slot o =
+    let s = slotAt h slot in
+    answered (o .answer)
+    (record {
+      keys = o .core .keys;
+      counts = o .core .counts;
+      used = o .core .used;
+      slots =
+          set (h .slots) slot
+          (record {
+            taken = s .taken;
+            floor = s .floor;
+            session = record { standing = o .core .standing; parts = o .core .parts };
+          });
+    })
+
+-- Order of checks, Deliver: 15, 1, 2, then the record
+unfoldable pub deliver : House → ℕ → List ℕ → Answered
+deliver h slot rec =
+    answered NotSound h unless sound h then
+    answered NoSuchSlot h unless ltb slot slotCount then
+    answered SlotClosed h unless slotAt h slot .taken then
+    withOutcome h slot (deliveredTo h slot rec)
+
+-- Figures: 15; free and promised
+unfoldable pub figuresOf : House → Figures
+figuresOf h =
+    record { answer = NotSound; free = 0; promised = 0 } unless sound h then
+    record { answer = Done; free = free h; promised = promised h }

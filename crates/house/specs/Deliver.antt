@@ -1,5 +1,5 @@
--- What a record delivered to an open slot does. Document 01, Calls, Deliver, and the grant rules of "The house, its slots
--- and its rows".
+-- What a record delivered to an open slot does. Document 01, Calls, Deliver, and the grant rules of "The house, its
+-- slots and its rows".
 --
 --   granted     whether a key gets a row, or needs none
 --   Core        all that such a record may change
@@ -27,8 +27,8 @@ use Rattle.house.specs.declared.Granting.{Granting}
 use Rattle.house.specs.declared.Granting.the-variants.{Rows, NoRoom}
 use Rattle.house.specs.House.{rowCount, Lent}
 
--- a PRR's key that its session holds needs no row; a new one gets one exactly if the session holds fewer rows than its
--- floor, or free is greater than promised: what the others are promised and what is left of this floor
+-- a PRR's key that its session holds needs no row; a new one gets one exactly if the session holds fewer rows than
+-- its floor, or free is greater than promised: what the others are promised and what is left of this floor
 unfoldable pub granted : Room → List ℕ → ℕ → Bool
 granted room keys key =
     held key keys

@@ -14,7 +14,7 @@ use lib.ListN.{length, take, getD, replicate}
 use Rattle.rising.specs.Rising.{rising}
 use Rattle.rows.specs.Rows.{slotCount, heldBy, sumBy, rowsRight}
 use Rattle.session.specs.Session as session
-use Rattle.session.specs.Session.{begun, nothingYet}
+use Rattle.session.specs.Session.{begun, nothingYet, mostResults}
 use Rattle.house.specs.declared.Slot.{Slot}
 use Rattle.house.specs.declared.House.{House}
 
@@ -79,13 +79,15 @@ takenOf slots = map (λ (s : Slot). s .taken) slots
 unfoldable pub rowsSound : List Bool → List ℕ → List ℕ → Bool
 rowsSound taken keys counts = rising keys && rowsRight taken keys counts
 
--- an open slot: its floor at most 1,024, its session sound, its counts the sum of its accepted PRRs, which no u32 exceeds;
--- a closed slot holds nothing
+-- an open slot: its floor at most 1,024, its session sound, its counts the sum of its accepted PRRs, at most
+-- 4,294,967,295; a closed slot holds nothing
 unfoldable pub slotSound : ℕ → Slot → List ℕ → List ℕ → Bool
 slotSound i s keys counts =
     cond (s .taken)
     (leb (s .floor) rowCount
-    && (session.sound (s .session) && eqb (sumBy i keys counts) (s .session .standing .results)))
+    && (session.sound (s .session)
+    && (leb (s .session .standing .results) mostResults
+    && eqb (sumBy i keys counts) (s .session .standing .results))))
     (eqb (s .floor) 0 && nothingYet (s .session .standing))
 
 unfoldable pub slotsSound : ℕ → List Slot → List ℕ → List ℕ → Bool

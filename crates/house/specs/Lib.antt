@@ -1,3 +1,4 @@
 pub mod House
 pub mod Deliver
 pub mod Calls
+pub mod Report

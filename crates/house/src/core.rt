@@ -1,5 +1,6 @@
-// What a record delivered to one open slot does, over lent rows and parts: document 01, Calls, Deliver. The caller knows
-// that the house is sound: nothing is tested twice and nothing is copied, so that loops over many records stand on this.
+// What a record delivered to one open slot does, over lent rows and parts: document 01, Calls, Deliver. The caller
+// knows that the house is sound: nothing is tested twice and nothing is copied, so that loops over many records stand
+// on this.
 use crate::Delivered;
 use crate::Granting;
 use crate::Room;

@@ -1,5 +1,5 @@
-// The house: document 01, "The house, its slots and its rows". Sessions draw rows from one pool, and each has a floor of
-// rows that nothing another session does can take. Every call takes a house by value and gives one back, tests its
+// The house: document 01, "The house, its slots and its rows". Sessions draw rows from one pool, and each has a floor
+// of rows that nothing another session does can take. Every call takes a house by value and gives one back, tests its
 // soundness and answers, whatever is handed in.
 mod calls;
 mod core;
@@ -59,6 +59,20 @@ pub struct Delivered {
 pub enum Granting {
     Rows(usize),
     NoRoom,
+}
+
+// A row of a report: its key and its count.
+pub struct Row {
+    pub head: u8,
+    pub site: u8,
+    pub bin: u16,
+    pub count: u32,
+}
+
+// The answer of a report, and how many rows it wrote: none where it is refused.
+pub struct Reported {
+    pub answer: Answer,
+    pub rows: usize,
 }
 
 impl Slot {

@@ -4,7 +4,7 @@ use rows::held_by;
 ghost use mathlib.Core.Path.{_≡_};
 ghost use mathlib.Core.Bool.{true};
 ghost use Prim.Native.Nat.{_≤_, _<_, _*_};
-ghost use lib.ListN.{take};
+ghost use lib.ListN.{length, take};
 ghost use Rattle.house.specs.House.{unfilled, promisedFrom, floorsLow, LentKeys};
 
 // The rows still promised to a slot: its floor less what it holds, where that is above nought.
@@ -23,10 +23,10 @@ pub(crate) fn unfilled_of(i: usize, s: Slot, keys: &[u64; 1024], used: usize) ->
     (floor - held) as u32
 }
 
-// The rows still promised, over all slots.
+// The rows still promised, over all slots; and that there are sixteen, which the array's type alone says.
 pub(crate) fn promised_of(slots: [Slot; 16], keys: &[u64; 1024], used: usize) -> u32
     requires { ⌜ (floorsLow slots ≡ true) × LentKeys (now keys) used ⌝ }
-    ensures { λ r. ⌜ (r ≡ promisedFrom 0 slots (take used (now (keys .entry)))) × (r ≤ 16384) ⌝ }
+    ensures { λ r. ⌜ (r ≡ promisedFrom 0 slots (take used (now (keys .entry)))) × (r ≤ 16384) × (length slots ≡ 16) ⌝ }
 {
     let mut n: u32 = 0;
     let mut i: usize = 0;

@@ -9,6 +9,13 @@ ghost use Prim.Native.Nat.{_≤_, _<_};
 ghost use lib.ListN.{length, take};
 ghost use Rattle.house.specs.House.{takenOf, slotSound, slotsSound, rowsSound, sound, Lent};
 
+// A number of accepted PRRs, with the range that its type has: the definition names it, and no proof sees a type.
+fn ranged(results: u32) -> u32
+    ensures { λ r. ⌜ (r ≡ results) × (r ≤ 4294967295) ⌝ }
+{
+    results
+}
+
 // An open slot's floor, session and counts; a closed slot holds nothing.
 fn slot_sound<'a>(
     i: usize,
@@ -34,7 +41,7 @@ fn slot_sound<'a>(
     if !session::is_sound(session) {
         return false;
     }
-    rows::sum_is(keys, counts, used, i, st.results)
+    rows::sum_is(keys, counts, used, i, ranged(st.results))
 }
 
 fn slots_sound<'a>(

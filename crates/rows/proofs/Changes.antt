@@ -1,5 +1,5 @@
--- The statements of specs/Laws.antt on `counted` and `slotDropped`, proved: what is in use afterwards is a list with an
--- element put in, a count raised or a run taken out, and of such lists the laws speak.
+-- The statements of specs/Laws.antt on `counted` and `slotDropped`, proved: what is in use afterwards is a list with
+-- an element put in, a count raised or a run taken out, and of such lists the laws speak.
 -- Assumes nothing.
 use mathlib.Core.Path.{_≡_, refl, sym, ap, _∙_}
 use mathlib.Core.Bool.{Bool, true, false, _||_}

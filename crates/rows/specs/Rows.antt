@@ -1,6 +1,6 @@
 -- The rows of a house. Document 01, "The house, its slots and its rows": a house holds all slots' rows in two arrays,
--- keys and counts, of which the first `used` cells are in use. The keys in use rise strictly, so no key is there twice
--- and a slot's rows stand together, in the order of a report.
+-- keys and counts, of which the first `used` cells are in use. The keys in use rise strictly, so no key is there
+-- twice and a slot's rows stand together, in the order of a report.
 --
 --   rowKey                  the number that a slot and a key within it are held under
 --   slotOf headOf siteOf binOf   what such a number is made of

@@ -1,6 +1,6 @@
 // The rows of a house: document 01, "The house, its slots and its rows". The keys in use rise strictly and begin with
-// their slot, so a slot's rows are the stretch between two ranks. All is over lent slices: `used` cells of each are in
-// use.
+// their slot, so a slot's rows are the stretch between two ranks. All is over lent slices: `used` cells of each are
+// in use.
 use rising::holds;
 use rising::insert;
 use rising::rank_of;

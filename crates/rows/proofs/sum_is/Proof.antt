@@ -1,5 +1,5 @@
--- `rows::sum_is` meets its contract. The invariant: with what is left the slot's sum is the total with the rows from i
--- on, so a count that is more than what is left makes the sum more than the total.
+-- `rows::sum_is` meets its contract. The invariant: with what is left the slot's sum is the total with the rows from
+-- i on, so a count that is more than what is left makes the sum more than the total.
 -- Assumes nothing.
 use mathlib.Core.Path.{_≡_, sym}
 use Prim.Native.Nat.{ℕ, _+_, _≤_, _<_, _-_}

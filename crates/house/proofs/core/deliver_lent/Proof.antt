@@ -1,99 +1,79 @@
-use mathlib.Core.Path.{_≡_, ap, sym, _∙_}
+-- `house::core::deliver_lent` meets its contract: each return is one case of its definition.
+-- Assumes nothing.
+use mathlib.Core.Path.{sym, _∙_}
 use native.Mathlib.Omega.{arith}
-use lib.ListN.{length, take}
-use denote.Ref.{now}
+use borrow.Author.Needs.{needs}
 use Rattle.house.proofs.Delivering.{delivered-refused, delivered-taken, delivered-opened, delivered-wanted}
 use Rattle.session.proofs.Laws.{within-opened, within-wanted}
 use Rattle.session.proofs.Judgement.{judged-within}
-use borrow.Author.Needs.{needs}
 use Rattle.house.proofs.core.deliver_lent.Statement.{statement}
 use Rattle.house.proofs.core.deliver_lent.Tie as tie
-use Rattle.house.proofs.core.deliver_lent.Reads as reads
-use Rattle.house.proofs.core.deliver_lent.Lts as lts
-use Rattle.house.proofs.core.result_lent.Reads as result-lent-reads
-use Rattle.rising.proofs.insert.Reads as insert-reads
-use Rattle.session.proofs.judge_lent.Reads as judge-lent-reads
 
--- src/core.rt:108:11
-judge-lent-requires : tie.Need-judge-lent-requires
-judge-lent-requires c κs = search needs
-
--- src/core.rt:109:26
-enum-known-answer : tie.Need-enum-known-answer
-enum-known-answer c = search needs
-
--- src/core.rt:114:24
-enum-known-next : tie.Need-enum-known-next
-enum-known-next c = search needs
-
--- src/core.rt:119:25
-enum-known-next-2 : tie.Need-enum-known-next-2
-enum-known-next-2 c = search needs
-
--- src/core.rt:120:13
 insert-requires : tie.Need-insert-requires
-insert-requires c κs = 
+insert-requires c κs =
     let start = c .before .before .before .before .before .before .before .before .before .before in
     let k = start .pre .kept in
     let v = sym (c .before .before .before .before .judge-lent .ensures) ∙ c .before .before .next2 .given .1 in
     let w = within-opened _ (judged-within _ _ _ k) v in
     (w .0, omega (arith, w .1, start .pre .cells))
 
--- src/core.rt:127:25
-enum-known-next-3 : tie.Need-enum-known-next-3
-enum-known-next-3 c = search needs
-
--- src/core.rt:127:45
 result-lent-requires : tie.Need-result-lent-requires
-result-lent-requires c κs = 
+result-lent-requires c κs =
     let start = c .before .before .before .before .before .before .before .before .before .before .before .before in
     let k = start .pre .kept in
     let v = sym (c .before .before .before .before .before .before .judge-lent .ensures) ∙ c .before .before .before .before .next3 .given .1 in
     (start .pre, within-wanted _ (judged-within _ _ _ k) v)
 
--- src/core.rt:95:1
-same-length : tie.Need-same-length
-same-length c = search needs
-
--- src/core.rt:95:1
 returns : tie.Need-returns
 returns c = delivered-refused _ _ _ _ _ _ _ _ (sym (c .before .before .before .judge-lent .ensures) ∙ c .before .answer .given .1)
 
--- src/core.rt:95:1
-same-length-2 : tie.Need-same-length-2
-same-length-2 c = search needs
-
--- src/core.rt:95:1
 returns-2 : tie.Need-returns-2
 returns-2 c = delivered-taken _ _ _ _ _ _ _ _ (sym (c .before .before .before .judge-lent .ensures) ∙ c .before .next .given .1)
 
--- src/core.rt:95:1
-same-length-3 : tie.Need-same-length-3
-same-length-3 c = search needs
-
--- src/core.rt:95:1
 returns-3 : tie.Need-returns-3
-returns-3 c = 
+returns-3 c =
     delivered-opened _ _ _ _ _ _ _ _ _ _ (sym (c .before .before .before .before .before .before .before .judge-lent .ensures) ∙ c .before .before .before .before .before .next2 .given .1) _
     (c .before .before .insert .ensures)
 
--- src/core.rt:95:1
+returns-4 : tie.Need-returns-4
+returns-4 c =
+    c .before .before .before .before .before .before .result-lent .ensures
+    ∙ delivered-wanted _ _ _ _ _ _ _ _ _ _ (sym (c .before .before .before .before .before .before .before .before .before .before .before .before .before .judge-lent .ensures) ∙ c .before .before .before .before .before .before .before .before .before .before .before .next3 .given .1)
+
+-- ---- found by search
+
+judge-lent-requires : tie.Need-judge-lent-requires
+judge-lent-requires c κs = search needs
+
+enum-known-answer : tie.Need-enum-known-answer
+enum-known-answer c = search needs
+
+enum-known-next : tie.Need-enum-known-next
+enum-known-next c = search needs
+
+enum-known-next-2 : tie.Need-enum-known-next-2
+enum-known-next-2 c = search needs
+
+enum-known-next-3 : tie.Need-enum-known-next-3
+enum-known-next-3 c = search needs
+
+same-length : tie.Need-same-length
+same-length c = search needs
+
+same-length-2 : tie.Need-same-length-2
+same-length-2 c = search needs
+
+same-length-3 : tie.Need-same-length-3
+same-length-3 c = search needs
+
 same-length-4 : tie.Need-same-length-4
 same-length-4 c = search needs
 
--- src/core.rt:95:1
 same-length-5 : tie.Need-same-length-5
 same-length-5 c = search needs
 
--- src/core.rt:95:1
 same-length-6 : tie.Need-same-length-6
 same-length-6 c = search needs
-
--- src/core.rt:95:1
-returns-4 : tie.Need-returns-4
-returns-4 c = 
-    c .before .before .before .before .before .before .result-lent .ensures
-    ∙ delivered-wanted _ _ _ _ _ _ _ _ _ _ (sym (c .before .before .before .before .before .before .before .before .before .before .before .before .before .judge-lent .ensures) ∙ c .before .before .before .before .before .before .before .before .before .before .before .next3 .given .1)
 
 pub deliver-lent-spec : {M : Type 1} → statement M
 deliver-lent-spec =

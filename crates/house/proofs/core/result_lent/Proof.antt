@@ -1,69 +1,52 @@
-use mathlib.Core.Path.{_≡_, ap, sym, _∙_}
-use native.Mathlib.Omega.{arith}
-use lib.ListN.{length, take}
-use denote.Ref.{now}
-use Rattle.house.proofs.Delivering.{resulted-rows, resulted-none}
+-- `house::core::result_lent` meets its contract: each return is one case of its definition.
+-- Assumes nothing.
 use borrow.Author.Needs.{needs}
+use Rattle.house.proofs.Delivering.{resulted-rows, resulted-none}
 use Rattle.house.proofs.core.result_lent.Statement.{statement}
 use Rattle.house.proofs.core.result_lent.Tie as tie
-use Rattle.house.proofs.core.result_lent.Reads as reads
-use Rattle.house.proofs.core.result_lent.Lts as lts
-use Rattle.house.proofs.core.row_key.Reads as row-key-reads
-use Rattle.house.proofs.core.take_row.Reads as take-row-reads
-use Rattle.rising.proofs.remove.Reads as remove-reads
 
--- src/core.rt:77:46
-row-key-requires : tie.Need-row-key-requires
-row-key-requires c κs = search needs
-
--- src/core.rt:77:11
-take-row-requires : tie.Need-take-row-requires
-take-row-requires c κs = search needs
-
--- src/core.rt:78:24
-enum-known-n : tie.Need-enum-known-n
-enum-known-n c = search needs
-
--- src/core.rt:79:13
-remove-requires : tie.Need-remove-requires
-remove-requires c κs = search needs
-
--- src/core.rt:87:21
-enum-told : tie.Need-enum-told
-enum-told c = search needs
-
--- src/core.rt:61:1
-same-length : tie.Need-same-length
-same-length c = search needs
-
--- src/core.rt:61:1
-same-length-2 : tie.Need-same-length-2
-same-length-2 c = search needs
-
--- src/core.rt:61:1
-same-length-3 : tie.Need-same-length-3
-same-length-3 c = search needs
-
--- src/core.rt:61:1
 returns : tie.Need-returns
-returns c = 
+returns c =
     let rowed = c .before .before .before .before .before .before .before .before .before .before .before in
     resulted-rows _ _ _ _ _ _ _ _ _ _ (rowed .before .row-key .ensures) _ _ _ (rowed .take-row .ensures) _ _
     (c .before .before .before .before .before .n .given .1) (c .before .before .remove .ensures)
 
--- src/core.rt:61:1
+returns-2 : tie.Need-returns-2
+returns-2 c =
+    let rowed = c .before .before .before .before .before .before in
+    resulted-none _ _ _ _ _ _ _ _ _ _ (rowed .before .row-key .ensures) _ _ _ (rowed .take-row .ensures) (c .enum-told .given .1)
+
+-- ---- found by search
+
+row-key-requires : tie.Need-row-key-requires
+row-key-requires c κs = search needs
+
+take-row-requires : tie.Need-take-row-requires
+take-row-requires c κs = search needs
+
+enum-known-n : tie.Need-enum-known-n
+enum-known-n c = search needs
+
+remove-requires : tie.Need-remove-requires
+remove-requires c κs = search needs
+
+enum-told : tie.Need-enum-told
+enum-told c = search needs
+
+same-length : tie.Need-same-length
+same-length c = search needs
+
+same-length-2 : tie.Need-same-length-2
+same-length-2 c = search needs
+
+same-length-3 : tie.Need-same-length-3
+same-length-3 c = search needs
+
 same-length-4 : tie.Need-same-length-4
 same-length-4 c = search needs
 
--- src/core.rt:61:1
 same-length-5 : tie.Need-same-length-5
 same-length-5 c = search needs
-
--- src/core.rt:61:1
-returns-2 : tie.Need-returns-2
-returns-2 c = 
-    let rowed = c .before .before .before .before .before .before in
-    resulted-none _ _ _ _ _ _ _ _ _ _ (rowed .before .row-key .ensures) _ _ _ (rowed .take-row .ensures) (c .enum-told .given .1)
 
 pub result-lent-spec : {M : Type 1} → statement M
 result-lent-spec =

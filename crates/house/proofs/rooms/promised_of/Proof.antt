@@ -1,19 +1,16 @@
+-- `house::rooms::promised_of` meets its contract: the promised rows of the slots passed and of those to come.
+-- Assumes nothing.
+use mathlib.Core.Path.{_≡_, sym}
+use Prim.Native.Nat.{_+_, _*_, _-_, _≤_}
 use native.Mathlib.Nat.{zero-add}
-use Rattle.house.specs.House.{noSlot}
-use mathlib.Core.Path.{_≡_, refl, ap, sym, _∙_}
-use Prim.Native.Nat.{ℕ, _+_, _*_, _-_, _≤_, _<_}
 use native.Mathlib.Omega.{arith}
 use lib.ListN.{length, take, drop, getD}
 use denote.Ref.{now}
 use borrow.Author.Needs.{needs}
-use borrow.Author.Tests.{not-true, not-false}
+use Rattle.house.specs.House.{noSlot, promisedFrom}
 use Rattle.house.proofs.Laws.{promised-on, promised-none, floor-at, unfilled-low}
-use Rattle.house.specs.House.{promisedFrom, unfilled}
 use Rattle.house.proofs.rooms.promised_of.Statement.{statement}
 use Rattle.house.proofs.rooms.promised_of.Tie as tie
-use Rattle.house.proofs.rooms.promised_of.Reads as reads
-use Rattle.house.proofs.rooms.promised_of.Lts as lts
-use Rattle.house.proofs.rooms.unfilled_of.Reads as unfilled-of-reads
 
 abbrev Inv-loop : tie.InvT-loop
 Inv-loop keys used slots n₀ i₀ n i = (length slots ≡ 16) × ((i ≤ 16) × ((n ≤ 1024 * i) × (promisedFrom 0 slots (take used keys) ≡ n + promisedFrom i (drop i slots) (take used keys))))
@@ -31,35 +28,15 @@ low c =
     (unfilled-low (l .loop .i) (getD (a .t1) (l .loop .i) noSlot) (take (a .used) (now (a .keys)))
     (floor-at (a .t1) (l .loop .i) noSlot (l .before .pre .0) (omega arith)))
 
--- src/rooms.rt:33:5
 loop-holds : tie.Need-loop-holds Inv-loop μ-loop
 loop-holds c = (search needs, (omega arith, (omega arith, sym (zero-add _))))
 
--- src/rooms.rt:34:17
-mul-s : tie.Need-mul-s Inv-loop μ-loop
-mul-s c = search needs
-
--- src/rooms.rt:34:17
-array-copy-out-s : tie.Need-array-copy-out-s Inv-loop μ-loop
-array-copy-out-s c = search needs
-
--- src/rooms.rt:35:14
 unfilled-of-requires : tie.Need-unfilled-of-requires Inv-loop μ-loop
 unfilled-of-requires c κs = (c .before .loop-test .taken, c .before .before .before .pre .1)
 
--- src/rooms.rt:35:9
 add-n : tie.Need-add-n Inv-loop μ-loop
 add-n c = record { fits = omega (arith, low c) }
 
--- src/rooms.rt:36:9
-add-i : tie.Need-add-i Inv-loop μ-loop
-add-i c = search needs
-
--- src/rooms.rt:33:5
-loop-less : tie.Need-loop-less Inv-loop μ-loop
-loop-less c = search needs
-
--- src/rooms.rt:33:5
 loop-again : tie.Need-loop-again Inv-loop μ-loop
 loop-again c =
     let turn = c .before .before in
@@ -76,12 +53,25 @@ loop-again c =
       ),
     )
 
--- src/rooms.rt:27:1
 returns : tie.Need-returns Inv-loop μ-loop
 returns c =
     let l = c .before in
     let a = l .before .args in
-    (omega (arith, promised-none (a .t1) (take (a .used) (now (a .keys))) (l .loop .i) noSlot (omega arith)), omega arith)
+    (omega (arith, promised-none (a .t1) (take (a .used) (now (a .keys))) (l .loop .i) noSlot (omega arith)), omega arith, l .loop .inv .0)
+
+-- ---- found by search
+
+mul-s : tie.Need-mul-s Inv-loop μ-loop
+mul-s c = search needs
+
+array-copy-out-s : tie.Need-array-copy-out-s Inv-loop μ-loop
+array-copy-out-s c = search needs
+
+add-i : tie.Need-add-i Inv-loop μ-loop
+add-i c = search needs
+
+loop-less : tie.Need-loop-less Inv-loop μ-loop
+loop-less c = search needs
 
 pub promised-of-spec : {M : Type 1} → statement M
 promised-of-spec =

@@ -1,18 +1,16 @@
-use Rattle.house.specs.House.{noSlot}
-use mathlib.Core.Path.{_≡_, refl, ap, sym, _∙_}
-use Prim.Native.Nat.{ℕ, _+_, _*_, _-_, _≤_, _<_}
+-- `house::sound::slots_sound` meets its contract: the slots passed are sound.
+-- Assumes nothing.
+use mathlib.Core.Path.{_≡_, refl, sym, _∙_}
+use Prim.Native.Nat.{_-_, _≤_}
 use native.Mathlib.Omega.{arith}
-use lib.ListN.{length, take, drop, getD}
+use lib.ListN.{length, take, drop}
 use denote.Ref.{now}
 use borrow.Author.Needs.{needs}
 use borrow.Author.Tests.{not-true, not-false}
+use Rattle.house.specs.House.{noSlot, slotsSound}
 use Rattle.house.proofs.Laws.{slots-on, slots-not, slots-done}
-use Rattle.house.specs.House.{slotsSound}
 use Rattle.house.proofs.sound.slots_sound.Statement.{statement}
 use Rattle.house.proofs.sound.slots_sound.Tie as tie
-use Rattle.house.proofs.sound.slots_sound.Reads as reads
-use Rattle.house.proofs.sound.slots_sound.Lts as lts
-use Rattle.house.proofs.sound.slot_sound.Reads as slot-sound-reads
 
 abbrev Inv-loop : tie.InvT-loop
 Inv-loop keys counts used slots i₀ i = (length slots ≡ 16) × ((i ≤ 16) × (slotsSound 0 slots (take used keys) (take used counts) ≡ slotsSound i (drop i slots) (take used keys) (take used counts)))
@@ -20,23 +18,12 @@ Inv-loop keys counts used slots i₀ i = (length slots ≡ 16) × ((i ≤ 16) ×
 abbrev μ-loop : tie.MeasureT-loop
 μ-loop keys counts used slots i₀ i = 16 - i
 
--- src/sound.rt:50:5
 loop-holds : tie.Need-loop-holds Inv-loop μ-loop
 loop-holds c = (search needs, (omega arith, refl))
 
--- src/sound.rt:51:17
-mul-s : tie.Need-mul-s Inv-loop μ-loop
-mul-s c = search needs
-
--- src/sound.rt:51:17
-array-copy-out-s : tie.Need-array-copy-out-s Inv-loop μ-loop
-array-copy-out-s c = search needs
-
--- src/sound.rt:52:13
 slot-sound-requires : tie.Need-slot-sound-requires Inv-loop μ-loop
 slot-sound-requires c κs = (c .before .loop-test .taken, c .before .before .before .pre)
 
--- src/sound.rt:53:13
 returns : tie.Need-returns Inv-loop μ-loop
 returns c =
     let turn = c .before .before .before in
@@ -47,15 +34,6 @@ returns c =
     ∙ slots-not (a .t1) (take (a .used) (now (a .keys))) (take (a .used) (now (a .counts))) (l .loop .i) noSlot (omega arith)
     (sym (c .before .slot-sound .ensures) ∙ not-true _ (c .if1 .taken)))
 
--- src/sound.rt:55:9
-add-i : tie.Need-add-i Inv-loop μ-loop
-add-i c = search needs
-
--- src/sound.rt:50:5
-loop-less : tie.Need-loop-less Inv-loop μ-loop
-loop-less c = search needs
-
--- src/sound.rt:50:5
 loop-again : tie.Need-loop-again Inv-loop μ-loop
 loop-again c =
     let turn = c .before .before .before in
@@ -70,7 +48,6 @@ loop-again c =
       ),
     )
 
--- src/sound.rt:40:1
 returns-2 : tie.Need-returns-2 Inv-loop μ-loop
 returns-2 c =
     let l = c .before in
@@ -78,6 +55,20 @@ returns-2 c =
     sym
     (l .loop .inv .1 .1
     ∙ slots-done (a .t1) (take (a .used) (now (a .keys))) (take (a .used) (now (a .counts))) (l .loop .i) noSlot (omega arith))
+
+-- ---- found by search
+
+mul-s : tie.Need-mul-s Inv-loop μ-loop
+mul-s c = search needs
+
+array-copy-out-s : tie.Need-array-copy-out-s Inv-loop μ-loop
+array-copy-out-s c = search needs
+
+add-i : tie.Need-add-i Inv-loop μ-loop
+add-i c = search needs
+
+loop-less : tie.Need-loop-less Inv-loop μ-loop
+loop-less c = search needs
 
 pub slots-sound-spec : {M : Type 1} → statement M
 slots-sound-spec =

@@ -1,20 +1,16 @@
-use lib.ListN.{length-set, length-map}
-use lib.Seq.{take-all}
-use Rattle.house.specs.declared.Slot.{Slot}
-use Rattle.house.specs.House.{noSlot}
-use mathlib.Core.Path.{_≡_, refl, ap, sym, _∙_}
-use Prim.Native.Nat.{ℕ, _+_, _*_, _-_, _≤_, _<_}
+-- `house::sound::taken_of` meets its contract: the cells passed tell which slots are open.
+-- Assumes nothing.
+use mathlib.Core.Path.{_≡_, refl, sym, _∙_}
+use Prim.Native.Nat.{_-_, _≤_}
 use native.Mathlib.Omega.{arith}
-use lib.ListN.{length, take, drop, getD}
-use denote.Ref.{now}
+use lib.ListN.{length-set, length-map, length, take}
+use lib.Seq.{take-all}
 use borrow.Author.Needs.{needs}
-use borrow.Author.Tests.{not-true, not-false}
+use Rattle.house.specs.declared.Slot.{Slot}
+use Rattle.house.specs.House.{noSlot, takenOf}
 use Rattle.house.proofs.Laws.{taken-on}
-use Rattle.house.specs.House.{takenOf}
 use Rattle.house.proofs.sound.taken_of.Statement.{statement}
 use Rattle.house.proofs.sound.taken_of.Tie as tie
-use Rattle.house.proofs.sound.taken_of.Reads as reads
-use Rattle.house.proofs.sound.taken_of.Lts as lts
 
 abbrev Inv-loop : tie.InvT-loop
 Inv-loop slots taken₀ i₀ taken i = (length slots ≡ 16) × ((length taken ≡ 16) × ((i ≤ 16) × (take i taken ≡ take i (takenOf slots))))
@@ -22,31 +18,9 @@ Inv-loop slots taken₀ i₀ taken i = (length slots ≡ 16) × ((length taken �
 abbrev μ-loop : tie.MeasureT-loop
 μ-loop slots taken₀ i₀ taken i = 16 - i
 
--- src/sound.rt:66:5
 loop-holds : tie.Need-loop-holds Inv-loop μ-loop
 loop-holds c = (search needs, (refl, (omega arith, refl)))
 
--- src/sound.rt:67:17
-mul-s : tie.Need-mul-s Inv-loop μ-loop
-mul-s c = search needs
-
--- src/sound.rt:67:17
-array-copy-out-s : tie.Need-array-copy-out-s Inv-loop μ-loop
-array-copy-out-s c = search needs
-
--- src/sound.rt:68:9
-array-write-taken : tie.Need-array-write-taken Inv-loop μ-loop
-array-write-taken c = search needs
-
--- src/sound.rt:69:9
-add-i : tie.Need-add-i Inv-loop μ-loop
-add-i c = search needs
-
--- src/sound.rt:66:5
-loop-less : tie.Need-loop-less Inv-loop μ-loop
-loop-less c = search needs
-
--- src/sound.rt:66:5
 loop-again : tie.Need-loop-again Inv-loop μ-loop
 loop-again c =
     let l = c .before .before in
@@ -61,7 +35,6 @@ loop-again c =
       ),
     )
 
--- src/sound.rt:61:1
 returns : tie.Need-returns Inv-loop μ-loop
 returns c =
     let l = c .before in
@@ -70,6 +43,23 @@ returns c =
     sym (take-all 16 (l .loop .taken) (omega arith))
     ∙ (rw all at (l .loop .inv .1 .1 .1))
     ∙ take-all 16 (takenOf slots) (omega (arith, length-map slots (λ (s : Slot). s .taken)))
+
+-- ---- found by search
+
+mul-s : tie.Need-mul-s Inv-loop μ-loop
+mul-s c = search needs
+
+array-copy-out-s : tie.Need-array-copy-out-s Inv-loop μ-loop
+array-copy-out-s c = search needs
+
+array-write-taken : tie.Need-array-write-taken Inv-loop μ-loop
+array-write-taken c = search needs
+
+add-i : tie.Need-add-i Inv-loop μ-loop
+add-i c = search needs
+
+loop-less : tie.Need-loop-less Inv-loop μ-loop
+loop-less c = search needs
 
 pub taken-of-spec : {M : Type 1} → statement M
 taken-of-spec =

@@ -1,0 +1,343 @@
+-- Laws of the calls, as the functions' proofs cite them: what soundness tells, and one law an answer, each under the
+-- tests before it, in the order of the checks.
+-- Assumes nothing.
+use mathlib.Core.Path.{_≡_, refl, ap, sym, _∙_}
+use mathlib.Core.Bool.{Bool, true, false, not, _&&_}
+use mathlib.Core.List.{List, [], _∷_}
+use Prim.Native.Nat.{ℕ, zero, suc, _+_, _-_, _≤_, _<_}
+use native.Mathlib.Nat.{add-zero, zero-add}
+use native.Mathlib.Omega.{arith}
+use borrow.Author.Tests.{le-leb, lt-leb, lt-ltb, le-ltb, leb-true, ltb-true, eqb-true}
+use lib.Dec.{leb, ltb, eqb}
+use lib.ListN.{length, getD, take, set, List·getD-map}
+use lib.Seq.{length-take-le}
+use Rattle.words.proofs.Both.{both-left, both-right}
+use Rattle.answers.specs.declared.Answer.the-variants as answer
+use Rattle.rising.specs.Rising.{rising, allBelow}
+use Rattle.rows.specs.Rows.{slotCount, mostHead, mostBin, slotOf, headOf, binOf, heldBy, sumBy, rowRight, rowsRight}
+use Rattle.rows.specs.Rows.{slotDropped, Rows, rows}
+use Rattle.rows.proofs.Laws.{count-within}
+use Rattle.session.specs.Session as session
+use Rattle.session.specs.Session.{mostResults}
+use Rattle.session.proofs.Judgement.{sound-kept}
+use Rattle.house.specs.declared.Slot.{Slot}
+use Rattle.house.specs.declared.House.{House}
+use Rattle.house.specs.declared.Room.{Room}
+use Rattle.house.specs.declared.Answered.{Answered}
+use Rattle.house.specs.declared.Figures.{Figures}
+use Rattle.house.specs.House.{rowCount, noSlot, closedSlot, openedSlot, keysOf, countsOf, free, unfilled, promisedFrom}
+use Rattle.house.specs.House.{promised, takenOf, rowsSound, slotSound, slotsSound, sound, Lent}
+use Rattle.house.specs.Deliver.{Outcome, core, delivered, pastCounts, LentRows, LentCore}
+use Rattle.house.specs.Calls.{slotAt, withSlot, answered, openSlot, closed, closeSlot, roomOf, deliveredTo}
+use Rattle.house.specs.Calls.{withOutcome, deliver, figuresOf}
+use Rattle.house.proofs.Laws.{lent-of}
+
+-- ---- what soundness tells
+
+module _ (h : House) (e : sound h ≡ true) where
+  rest : (rowsSound (takenOf (h .slots)) (keysOf h) (countsOf h)
+      && (slotsSound 0 (h .slots) (keysOf h) (countsOf h) && leb (promised h) (free h)))
+      ≡ true
+  unfolding sound
+  rest =
+      both-right (leb (h .used) rowCount)
+      (rowsSound (takenOf (h .slots)) (keysOf h) (countsOf h)
+      && (slotsSound 0 (h .slots) (keysOf h) (countsOf h) && leb (promised h) (free h))) e
+
+  pub told-within : h .used ≤ rowCount
+  unfolding sound
+  told-within =
+      leb-true (h .used) rowCount
+      (both-left (leb (h .used) rowCount)
+      (rowsSound (takenOf (h .slots)) (keysOf h) (countsOf h)
+      && (slotsSound 0 (h .slots) (keysOf h) (countsOf h) && leb (promised h) (free h))) e)
+
+  pub told-rows : rowsSound (takenOf (h .slots)) (keysOf h) (countsOf h) ≡ true
+  told-rows =
+      both-left (rowsSound (takenOf (h .slots)) (keysOf h) (countsOf h))
+      (slotsSound 0 (h .slots) (keysOf h) (countsOf h) && leb (promised h) (free h)) rest
+
+  last : (slotsSound 0 (h .slots) (keysOf h) (countsOf h) && leb (promised h) (free h)) ≡ true
+  last =
+      both-right (rowsSound (takenOf (h .slots)) (keysOf h) (countsOf h))
+      (slotsSound 0 (h .slots) (keysOf h) (countsOf h) && leb (promised h) (free h)) rest
+
+  pub told-slots : slotsSound 0 (h .slots) (keysOf h) (countsOf h) ≡ true
+  told-slots = both-left (slotsSound 0 (h .slots) (keysOf h) (countsOf h)) (leb (promised h) (free h)) last
+
+  pub told-rooms : promised h ≤ free h
+  told-rooms =
+      leb-true (promised h) (free h)
+      (both-right (slotsSound 0 (h .slots) (keysOf h) (countsOf h)) (leb (promised h) (free h)) last)
+
+  pub told-lent : length (h .keys) ≡ rowCount → length (h .counts) ≡ rowCount → Lent (h .keys) (h .counts) (h .used)
+  told-lent long paired = lent-of h long paired told-within told-rows
+
+-- ---- what it tells of a slot
+
+pub record OpenSlot (i : ℕ) (s : Slot) (keys counts : List ℕ) : Type 0 where
+  pub floor : s .floor ≤ rowCount
+  pub session : session.sound (s .session) ≡ true
+  pub few : s .session .standing .results ≤ mostResults
+  pub sum : sumBy i keys counts ≡ s .session .standing .results
+
+pub open-told : (i : ℕ) (s : Slot) (keys counts : List ℕ) → s .taken ≡ true → slotSound i s keys counts ≡ true
+    → OpenSlot i s keys counts
+unfolding slotSound
+open-told i s keys counts t e =
+    let floor = leb (s .floor) rowCount in
+    let fine = session.sound (s .session) in
+    let few = leb (s .session .standing .results) mostResults in
+    let sum = eqb (sumBy i keys counts) (s .session .standing .results) in
+    let all : (floor && (fine && (few && sum))) ≡ true = rw t at e in
+    let more = both-right floor (fine && (few && sum)) all in
+    let most = both-right fine (few && sum) more in
+    record {
+      floor = leb-true (s .floor) rowCount (both-left floor (fine && (few && sum)) all);
+      session = both-left fine (few && sum) more;
+      few = leb-true (s .session .standing .results) mostResults (both-left few sum most);
+      sum = eqb-true (sumBy i keys counts) (s .session .standing .results) (both-right few sum most);
+    }
+
+pub slots-at : (k : ℕ) (slots : List Slot) (keys counts : List ℕ) (j : ℕ) (none : Slot)
+    → slotsSound k slots keys counts ≡ true → j < length slots → slotSound (k + j) (getD slots j none) keys counts ≡ true
+unfolding slotsSound
+slots-at k [] keys counts j none e h = absurd (omega arith)
+slots-at k (s ∷ ss) keys counts zero none e h =
+    rw (add-zero k) (both-left (slotSound k s keys counts) (slotsSound (suc k) ss keys counts) e)
+slots-at k (s ∷ ss) keys counts (suc j) none e h =
+    let on : k + suc j ≡ suc k + j = omega arith in
+    rw on
+    (slots-at (suc k) ss keys counts j none
+    (both-right (slotSound k s keys counts) (slotsSound (suc k) ss keys counts) e) (omega arith))
+
+-- what is still promised to a slot is part of what is promised
+pub unfilled-within : (k : ℕ) (slots : List Slot) (keys : List ℕ) (j : ℕ) (none : Slot) → j < length slots
+    → unfilled (k + j) (getD slots j none) keys ≤ promisedFrom k slots keys
+unfolding promisedFrom
+unfilled-within k [] keys j none h = absurd (omega arith)
+unfilled-within k (s ∷ ss) keys zero none h = rw (add-zero k) (omega arith)
+unfilled-within k (s ∷ ss) keys (suc j) none h =
+    let on : k + suc j ≡ suc k + j = omega arith in
+    rw on (omega (arith, unfilled-within (suc k) ss keys j none (omega arith)))
+
+-- ---- counts are low
+
+below-all : (b : ℕ) (xs : List ℕ) → ((i : ℕ) → i < length xs → getD xs i 0 < b) → allBelow b xs ≡ true
+unfolding allBelow
+below-all b [] f = refl
+below-all b (x ∷ xs) f = rw (lt-ltb x b (f 0 (omega arith))) (below-all b xs (λ i h. f (suc i) (omega arith)))
+
+right-at : (taken : List Bool) (keys counts : List ℕ) (i : ℕ) → rowsRight taken keys counts ≡ true → i < length keys
+    → rowRight taken (getD keys i 0) (getD counts i 0) ≡ true
+unfolding rowsRight
+right-at taken [] cs i e h = absurd (omega arith)
+right-at taken (k ∷ ks) [] i e h = let never : _≡_ {A = ℕ} 0 1 = cc in absurd (omega arith)
+right-at taken (k ∷ ks) (c ∷ cs) zero e h = both-left (rowRight taken k c) (rowsRight taken ks cs) e
+right-at taken (k ∷ ks) (c ∷ cs) (suc i) e h =
+    right-at taken ks cs i (both-right (rowRight taken k c) (rowsRight taken ks cs) e) (omega arith)
+
+row-open : (taken : List Bool) (k c : ℕ) → rowRight taken k c ≡ true
+    → (slotOf k < slotCount) × (getD taken (slotOf k) false ≡ true)
+unfolding rowRight
+row-open taken k c e =
+    let inside = ltb (slotOf k) slotCount in
+    let there = getD taken (slotOf k) false in
+    let rest = leb (headOf k) mostHead && (leb (binOf k) mostBin && leb 1 c) in (
+      ltb-true (slotOf k) slotCount (both-left inside (there && rest) e),
+      both-left there rest (both-right inside (there && rest) e),
+    )
+
+module _ (h : House) (e : sound h ≡ true) (long : length (h .keys) ≡ rowCount) (paired : length (h .counts) ≡ rowCount)
+    (slots-long : length (h .slots) ≡ slotCount) where
+  keys-long : length (keysOf h) ≡ h .used
+  keys-long = length-take-le (h .used) (h .keys) (omega (arith, told-within h e))
+
+  counts-long : length (countsOf h) ≡ h .used
+  counts-long = length-take-le (h .used) (h .counts) (omega (arith, told-within h e))
+
+  rows-right : rowsRight (takenOf (h .slots)) (keysOf h) (countsOf h) ≡ true
+  unfolding rowsSound
+  rows-right =
+      both-right (rising (keysOf h)) (rowsRight (takenOf (h .slots)) (keysOf h) (countsOf h)) (told-rows h e)
+
+  count-low : (i : ℕ) → i < length (countsOf h) → getD (countsOf h) i 0 < pastCounts
+  count-low i g =
+      let key = getD (keysOf h) i 0 in
+      let in-keys : i < length (keysOf h) = omega (arith, keys-long, counts-long) in
+      let row = row-open (takenOf (h .slots)) key (getD (countsOf h) i 0)
+      (right-at (takenOf (h .slots)) (keysOf h) (countsOf h) i rows-right in-keys) in
+      let there : getD (h .slots) (slotOf key) noSlot .taken ≡ true
+      = sym (List·getD-map (λ (s : Slot). s .taken) (h .slots) (slotOf key) noSlot) ∙ row .1 in
+      let slot = open-told (slotOf key) (getD (h .slots) (slotOf key) noSlot) (keysOf h) (countsOf h) there
+      (rw (zero-add (slotOf key)) at (slots-at 0 (h .slots) (keysOf h) (countsOf h) (slotOf key) noSlot (told-slots h e) (omega (arith, row .0)))) in
+      omega (
+        arith,
+        count-within (keysOf h) (countsOf h) i (counts-long ∙ sym keys-long) in-keys,
+        slot .sum,
+        slot .few,
+      )
+
+  pub told-low : allBelow pastCounts (countsOf h) ≡ true
+  told-low = below-all pastCounts (countsOf h) count-low
+
+-- ---- figures
+
+module _ (h : House) where
+  pub figures-unsound : sound h ≡ false → record { answer = answer.NotSound; free = 0; promised = 0 } ≡ figuresOf h
+  unfolding figuresOf
+  figures-unsound e = rw e
+
+  pub figures-done : sound h ≡ true → (n : ℕ) → n ≡ promised h
+      → record { answer = answer.Done; free = rowCount - h .used; promised = n } ≡ figuresOf h
+  unfolding figuresOf
+  figures-done e n is = rw (e, is)
+
+-- ---- open
+
+module _ (h : House) (slot floor : ℕ) where
+  pub open-unsound : sound h ≡ false → openSlot h slot floor ≡ answered answer.NotSound h
+  unfolding openSlot
+  open-unsound e = rw e
+
+  module _ (e : sound h ≡ true) where
+    pub open-no-slot : slotCount ≤ slot → openSlot h slot floor ≡ answered answer.NoSuchSlot h
+    unfolding openSlot
+    open-no-slot g = rw (e, le-ltb slot slotCount g)
+
+    module _ (inside : slot < slotCount) where
+      pub open-high : rowCount < floor → openSlot h slot floor ≡ answered answer.FloorTooHigh h
+      unfolding openSlot
+      open-high g = rw (e, lt-ltb slot slotCount inside, lt-leb floor rowCount g)
+
+      module _ (low : floor ≤ rowCount) where
+        pub open-taken : slotAt h slot .taken ≡ true → openSlot h slot floor ≡ answered answer.SlotTaken h
+        unfolding openSlot
+        open-taken t = rw (e, lt-ltb slot slotCount inside, le-leb floor rowCount low, t)
+
+        module _ (shut : slotAt h slot .taken ≡ false) where
+          pub open-no-room : free h - promised h < floor → openSlot h slot floor ≡ answered answer.NoRoom h
+          unfolding openSlot
+          open-no-room g =
+              rw (e, lt-ltb slot slotCount inside, le-leb floor rowCount low, shut, lt-leb floor (free h - promised h) g)
+
+          pub open-done : floor ≤ free h - promised h → (s : Slot) → s ≡ openedSlot floor
+              → openSlot h slot floor ≡ answered answer.Done (withSlot h slot s)
+          unfolding openSlot
+          open-done g s is =
+              rw (e, lt-ltb slot slotCount inside, le-leb floor rowCount low, shut, le-leb floor (free h - promised h) g, is)
+
+-- ---- close
+
+module _ (h : House) (slot : ℕ) where
+  pub close-unsound : sound h ≡ false → closeSlot h slot ≡ answered answer.NotSound h
+  unfolding closeSlot
+  close-unsound e = rw e
+
+  module _ (e : sound h ≡ true) where
+    pub close-no-slot : slotCount ≤ slot → closeSlot h slot ≡ answered answer.NoSuchSlot h
+    unfolding closeSlot
+    close-no-slot g = rw (e, le-ltb slot slotCount g)
+
+    module _ (inside : slot < slotCount) where
+      pub close-shut : slotAt h slot .taken ≡ false → closeSlot h slot ≡ answered answer.SlotClosed h
+      unfolding closeSlot
+      close-shut t = rw (e, lt-ltb slot slotCount inside, t)
+
+      pub close-done : slotAt h slot .taken ≡ true → (ks cs : List ℕ) (n : ℕ) (s : Slot)
+          → rows ks cs n ≡ slotDropped (h .keys) (h .counts) (h .used) slot → s ≡ closedSlot
+          → closeSlot h slot
+          ≡ answered answer.Done (record { keys = ks; counts = cs; used = n; slots = set (h .slots) slot s })
+      unfolding closeSlot
+      close-done t ks cs n s is shut =
+          rw (e, lt-ltb slot slotCount inside, t, shut)
+          (ap
+          (λ (r : Rows).
+          answered answer.Done
+          (record { keys = r .keys; counts = r .counts; used = r .used; slots = set (h .slots) slot closedSlot }))
+          (sym is))
+
+-- ---- deliver
+
+module _ (h : House) (slot : ℕ) (rec : List ℕ) where
+  pub deliver-unsound : sound h ≡ false → deliver h slot rec ≡ answered answer.NotSound h
+  unfolding deliver
+  deliver-unsound e = rw e
+
+  module _ (e : sound h ≡ true) where
+    pub deliver-no-slot : slotCount ≤ slot → deliver h slot rec ≡ answered answer.NoSuchSlot h
+    unfolding deliver
+    deliver-no-slot g = rw (e, le-ltb slot slotCount g)
+
+    module _ (inside : slot < slotCount) where
+      pub deliver-shut : slotAt h slot .taken ≡ false → deliver h slot rec ≡ answered answer.SlotClosed h
+      unfolding deliver
+      deliver-shut t = rw (e, lt-ltb slot slotCount inside, t)
+
+      pub deliver-judged : slotAt h slot .taken ≡ true
+          → deliver h slot rec ≡ withOutcome h slot (deliveredTo h slot rec)
+      unfolding deliver
+      deliver-judged t = rw (e, lt-ltb slot slotCount inside, t)
+
+-- ---- what is lent to a delivery
+
+module _ (h : House) (slot : ℕ) (s : Slot) (is : s ≡ slotAt h slot) where
+  pub room-is : (all own : ℕ) → all ≡ promised h → own ≡ unfilled slot s (keysOf h)
+      → record { slot = slot; floor = s .floor; others = all - own } ≡ roomOf h slot
+  room-is all own a o = rw (a, o, is)
+
+-- an open slot of a sound house lends its session and all rows
+pub lent-core : (h : House) (slot : ℕ) → sound h ≡ true → length (h .keys) ≡ rowCount → length (h .counts) ≡ rowCount
+    → length (h .slots) ≡ slotCount → slot < slotCount → slotAt h slot .taken ≡ true
+    → length (slotAt h slot .session .parts) ≡ 32
+    → LentCore (roomOf h slot) (h .keys) (h .counts) (h .used) (slotAt h slot .session .standing)
+    (slotAt h slot .session .parts)
+unfolding unfilled
+lent-core h slot e long paired slots-long inside t cells =
+    let s = slotAt h slot in
+    let told = open-told slot s (keysOf h) (countsOf h) t
+    (rw (zero-add slot) at (slots-at 0 (h .slots) (keysOf h) (countsOf h) slot noSlot (told-slots h e) (omega arith))) in
+    let own : unfilled slot s (keysOf h) ≤ promised h
+    = rw (zero-add slot) at (unfilled-within 0 (h .slots) (keysOf h) slot noSlot (omega arith)) in
+    let unfilled-is : unfilled slot s (keysOf h) ≡ s .floor - heldBy slot (keysOf h) = rw t in
+    record {
+      rows =
+          record {
+            lent = told-lent h e long paired;
+            slot = inside;
+            low = told-low h e long paired slots-long;
+            roomy = omega (arith, own, unfilled-is, told-rooms h e);
+          };
+      kept = sound-kept (s .session) cells (told .session);
+      cells = cells;
+    }
+
+-- the same of a slot and a room that were read off the house
+module _ (h : House) (slot : ℕ) {s : Slot} {room : Room} (is : s ≡ slotAt h slot) (seen : room ≡ roomOf h slot) where
+  pub lent-to : sound h ≡ true → length (h .keys) ≡ rowCount → length (h .counts) ≡ rowCount
+      → length (h .slots) ≡ slotCount → slot < slotCount → s .taken ≡ true → length (s .session .parts) ≡ 32
+      → LentCore room (h .keys) (h .counts) (h .used) (s .session .standing) (s .session .parts)
+  lent-to e long paired slots-long inside t cells =
+      rw (seen, is)
+      (lent-core h slot e long paired slots-long inside (ap (λ (x : Slot). x .taken) (sym is) ∙ t)
+      (ap (λ (x : Slot). length (x .session .parts)) (sym is) ∙ cells))
+
+  pub laid-back : (rec : List ℕ) (o : Outcome)
+      → o ≡ delivered room (core (h .keys) (h .counts) (h .used) (s .session .standing) (s .session .parts)) rec
+      → answered (o .answer)
+      (record {
+        keys = o .core .keys;
+        counts = o .core .counts;
+        used = o .core .used;
+        slots =
+            set (h .slots) slot
+            (record {
+              taken = s .taken;
+              floor = s .floor;
+              session = record { standing = o .core .standing; parts = o .core .parts };
+            });
+      })
+      ≡ withOutcome h slot (deliveredTo h slot rec)
+  laid-back rec o did =
+      let done : o ≡ deliveredTo h slot rec = did ∙ rw (seen, is) in
+      rw (← done, is)

@@ -1,0 +1,47 @@
+-- The report. Document 01, Calls, Report: a slot's rows in rising order of head, then site, then bin.
+--
+--   rowAt      the i-th row of a slot
+--   rowsOf     how many rows a report of a slot has; none where there is nothing to report
+--   reported   what the call answers, and how many rows it writes into a slice that is so long
+--   filled     a slice whose first rows are written, every other as it was
+-- Assumes nothing.
+use Prim.Native.Nat.{ℕ, zero, suc, _+_}
+use mathlib.Core.Bool.{cond, _&&_}
+use mathlib.Core.List.{List}
+use lib.Dec.{leb, ltb}
+use lib.ListN.{getD, set}
+use Rattle.words.specs.Choice.{_unless_then_}
+use Rattle.answers.specs.declared.Answer.{Answer}
+use Rattle.answers.specs.declared.Answer.the-variants.{Done, NoSuchSlot, SlotClosed, NotSound, OutputTooShort}
+use Rattle.rows.specs.Rows.{slotCount, headOf, siteOf, binOf, heldBy, slotRank}
+use Rattle.house.specs.declared.House.{House}
+use Rattle.house.specs.declared.Row.{Row}
+use Rattle.house.specs.declared.Reported.{Reported}
+use Rattle.house.specs.House.{keysOf, sound}
+use Rattle.house.specs.Calls.{slotAt}
+
+unfoldable pub rowAt : House → ℕ → ℕ → Row
+rowAt h slot i =
+    let at = slotRank slot (keysOf h) + i in
+    let key = getD (h .keys) at 0 in
+    record { head = headOf key; site = siteOf key; bin = binOf key; count = getD (h .counts) at 0 }
+
+unfoldable pub rowsOf : House → ℕ → ℕ
+rowsOf h slot = cond (sound h && (ltb slot slotCount && slotAt h slot .taken)) (heldBy slot (keysOf h)) 0
+
+abbrev pub unreported : Answer → Reported
+unreported a = record { answer = a; rows = 0 }
+
+-- Order of checks, Report: 15, 1, 2, 17
+unfoldable pub reported : House → ℕ → ℕ → Reported
+reported h slot long =
+    unreported NotSound unless sound h then
+    unreported NoSuchSlot unless ltb slot slotCount then
+    unreported SlotClosed unless slotAt h slot .taken then
+    unreported OutputTooShort unless leb (heldBy slot (keysOf h)) long then
+    record { answer = Done; rows = heldBy slot (keysOf h) }
+
+-- elements beyond the rows keep their old content
+abbrev pub filled : (ℕ → Row) → ℕ → List Row → List Row
+filled row zero old = old
+filled row (suc i) old = set (filled row i old) i (row i)
