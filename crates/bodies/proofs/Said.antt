@@ -19,7 +19,8 @@ use Rattle.bodies.specs.declared.Record.the-variants as said
 use Rattle.bodies.specs.declared.Reading.{Reading}
 use Rattle.bodies.specs.declared.Reading.the-variants.{Fits, Misfit}
 use Rattle.bodies.specs.Values.{partHeadFits, flagFits, binFits, softBinFits}
-use Rattle.bodies.specs.Bodies.{farOf, pcrOf, binOf, pirOf, prrOf, valueOf, binValuesFit, pirValuesFit, prrValuesFit}
+use Rattle.bodies.specs.Bodies.{farOf, pcrOf, binOf, pirOf, prrOf, valueOf}
+use Rattle.bodies.specs.Bodies.{binValuesFit, pirValuesFit, prrValuesFit}
 use Rattle.bodies.specs.Bodies.{reading, readBody}
 use Rattle.bodies.specs.Laws.{saidBy, SaidBy, Right, SaidRight}
 
@@ -35,8 +36,10 @@ said-by order kind.Atr b r e = cc
 said-by order kind.Mir b r e = sym (read-is (fitsBody mir b) (said.Mir) r e .1)
 said-by order kind.Mrr b r e = sym (read-is (fitsBody mrr b) (said.Mrr) r e .1)
 said-by order kind.Pcr b r e = sym (read-is (fitsBody pcr b) (said.Pcr (pcrOf order b)) r e .1)
-said-by order kind.Hbr b r e = sym (read-is (fitsBody bin b && binValuesFit order b) (said.Bin (binOf false order b)) r e .1)
-said-by order kind.Sbr b r e = sym (read-is (fitsBody bin b && binValuesFit order b) (said.Bin (binOf true order b)) r e .1)
+said-by order kind.Hbr b r e =
+    sym (read-is (fitsBody bin b && binValuesFit order b) (said.Bin (binOf false order b)) r e .1)
+said-by order kind.Sbr b r e =
+    sym (read-is (fitsBody bin b && binValuesFit order b) (said.Bin (binOf true order b)) r e .1)
 said-by order kind.Rdr b r e = cc
 said-by order kind.Sdr b r e = cc
 said-by order kind.Pir b r e = sym (read-is (fitsBody pir b && pirValuesFit b) (said.Pir (pirOf b)) r e .1)

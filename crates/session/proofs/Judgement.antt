@@ -49,8 +49,8 @@ use Rattle.session.specs.declared.Session.{Session}
 use Rattle.session.specs.declared.Standing.{Standing}
 use Rattle.session.specs.declared.Verdict.{Verdict}
 use Rattle.session.specs.declared.Verdict.the-variants.{Refused, Taken, Opened, Wanted}
-use Rattle.session.specs.Session.{mostOpen, mostResults, partOf, keyOf, pastParts, partsOf, isStart, begun, nothingYet}
-use Rattle.session.specs.Session.{standsRight, partsRight, sound, Kept}
+use Rattle.session.specs.Session.{mostOpen, mostResults, partOf, keyOf, pastParts, partsOf, isStart, begun}
+use Rattle.session.specs.Session.{nothingYet, standsRight, partsRight, sound, Kept}
 use Rattle.session.specs.Judge.{inOrder, judgeIn, judgeOrdered, judgeFirst, at, withPcr, withPart, withResult}
 use Rattle.session.specs.Judge.{judgePir, judgePrr, judgeMrr, judgeSaid, judgeLater, judge}
 use Rattle.session.specs.After.{after, verdictOn}
@@ -148,7 +148,8 @@ module _ (P : Verdict → Type 0) (refused : (a : Answer) → P (Refused a)) whe
       checked P answer.TooManyResults (ltb (st .results) mostResults) _ (refused answer.TooManyResults) (λ few.
       prr p refl there (ltb-true (st .results) mostResults few)))
   said-cases st parts said.Mrr taken pcr pir prr mrr =
-      checked P answer.NotFinished (eqb (st .opened) 0 && st .pcr) _ (refused answer.NotFinished) (λ done. mrr refl done)
+      checked P answer.NotFinished (eqb (st .opened) 0 && st .pcr) _ (refused answer.NotFinished) (λ done.
+      mrr refl done)
   said-cases st parts (said.Pcr p) taken pcr pir prr mrr = pcr p refl
   said-cases st parts (said.Far f) taken pcr pir prr mrr = taken refl
   said-cases st parts said.Mir taken pcr pir prr mrr = taken refl
@@ -180,7 +181,8 @@ unfolding partsRight
 parts-right opened cells p = rw (le-leb opened mostOpen (p .few), p .rises, p .below)
 
 module _ (s : Session) where
-  sound-right : partsRight (s .standing .opened) (s .parts) ≡ true → standsRight (s .standing .place) (s .standing) ≡ true
+  sound-right : partsRight (s .standing .opened) (s .parts) ≡ true
+      → standsRight (s .standing .place) (s .standing) ≡ true
       → sound s ≡ true
   unfolding sound
   sound-right p q = rw (p, q)
@@ -250,7 +252,8 @@ judged-key s rec bytes =
     (λ k q r h f.
     said-cases KeyRight (λ a. tt) (at (s .standing) q) (partsOf s) r (λ t. tt) (λ p t. tt) (λ p t new few. tt)
     (λ p t there few.
-    let right : Right (said.Prr p) = subst Right t (said-right (s .standing .order) k (body rec) r (body-bytes rec bytes) f) in
+    let told = said-right (s .standing .order) k (body rec) r (body-bytes rec bytes) f in
+    let right : Right (said.Prr p) = subst Right t told in
     (omega (arith, right .0, right .1, right .2), omega (arith, right .0, right .1, right .2)))
     (λ t done. tt))
 
@@ -392,37 +395,41 @@ pub judged-sound : JudgedSound
 unfolding after
 judged-sound s rec bytes long e =
     judge-cases Sound (λ a. e) (s .standing) (partsOf s) rec
-    (λ order h. sound-right (after s (Taken (inOrder (s .standing) order))) (right s long e) (yet (start-before (s .standing .place) h)))
+    (λ order h.
+    sound-right (after s (Taken (inOrder (s .standing) order))) (right s long e)
+    (yet (start-before (s .standing .place) h)))
     (λ k q r to fits.
     let order = s .standing .order in
+    let place = s .standing .place in
+    let next = at (s .standing) q in
     let b = body rec in
     let said-part : Right r = said-right order k b r (body-bytes rec bytes) fits in
-    said-cases Sound (λ a. e) (at (s .standing) q) (partsOf s) r
+    said-cases Sound (λ a. e) next (partsOf s) r
     (λ quieted.
-    sound-right (after s (Taken (at (s .standing) q))) (right s long e)
-    (stands-from q (at (s .standing) q) (λ h. yet (never-back (s .standing .place) q k to h))
+    sound-right (after s (Taken next)) (right s long e)
+    (stands-from q next (λ h. yet (never-back place q k to h))
     (λ h.
-    let is = mrr-at-end order (s .standing .place) q k b r to fits h in
+    let is = mrr-at-end order place q k b r to fits h in
     let loud : quiet said.Mrr ≡ true = subst (λ (x : Record). quiet x ≡ true) is quieted in
     let never : _≡_ {A = ℕ} 0 1 = cc in
     absurd (omega arith))))
     (λ p is.
-    sound-right (after s (Taken (withPcr (at (s .standing) q)))) (right s long e)
-    (in-body order (s .standing .place) q k b r to fits (withPcr (at (s .standing) q)) (ap quiet is) (pcr-no-mrr r p is)))
+    sound-right (after s (Taken (withPcr next))) (right s long e)
+    (in-body order place q k b r to fits (withPcr next) (ap quiet is) (pcr-no-mrr r p is)))
     (λ p is new few.
-    let part : Right (said.Pir p) = subst Right is said-part in
-    sound-right (after s (Opened (withPart (at (s .standing) q)) (rank (partOf (p .head) (p .site)) (partsOf s)) (partOf (p .head) (p .site))))
-    (opened-right s long e (partOf (p .head) (p .site)) (omega (arith, part .0, part .1)) new few)
-    (in-body order (s .standing .place) q k b r to fits (withPart (at (s .standing) q)) (ap quiet is) (pir-no-mrr r p is)))
+    let part = partOf (p .head) (p .site) in
+    let told : Right (said.Pir p) = subst Right is said-part in
+    sound-right (after s (Opened (withPart next) (rank part (partsOf s)) part))
+    (opened-right s long e part (omega (arith, told .0, told .1)) new few)
+    (in-body order place q k b r to fits (withPart next) (ap quiet is) (pir-no-mrr r p is)))
     (λ p is there few.
-    sound-right
-    (after s
-    (Wanted (withResult (at (s .standing) q)) (rank (partOf (p .head) (p .site)) (partsOf s)) (keyOf (p .head) (p .site) (p .bin))))
-    (closed-right s long e (partOf (p .head) (p .site)) there)
-    (in-body order (s .standing .place) q k b r to fits (withResult (at (s .standing) q)) (ap quiet is) (prr-no-mrr r p is)))
+    let part = partOf (p .head) (p .site) in
+    let key = keyOf (p .head) (p .site) (p .bin) in
+    sound-right (after s (Wanted (withResult next) (rank part (partsOf s)) key)) (closed-right s long e part there)
+    (in-body order place q k b r to fits (withResult next) (ap quiet is) (prr-no-mrr r p is)))
     (λ is done.
-    sound-right (after s (Taken (at (s .standing) q))) (right s long e)
-    (stands-from q (at (s .standing) q) (λ h. yet (never-back (s .standing .place) q k to h)) (λ h. done))))
+    sound-right (after s (Taken next)) (right s long e)
+    (stands-from q next (λ h. yet (never-back place q k to h)) (λ h. done))))
   where
     Sound : Verdict → Type 0
     Sound v = sound (after s v) ≡ true

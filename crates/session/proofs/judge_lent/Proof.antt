@@ -7,10 +7,16 @@ use Rattle.session.proofs.judge_lent.Statement.{statement}
 use Rattle.session.proofs.judge_lent.Tie as tie
 
 returns : tie.Need-returns
-returns c = c .judge-first .ensures ∙ sym (judge-at-start _ _ _ (sym (c .before .before .is-start .ensures) ∙ c .before .if1 .taken))
+returns c =
+    let start = c .before in
+    c .judge-first .ensures
+    ∙ sym (judge-at-start _ _ _ (sym (start .before .is-start .ensures) ∙ start .if1 .taken))
 
 returns-2 : tie.Need-returns-2
-returns-2 c = c .judge-later .ensures ∙ sym (judge-further _ _ _ (sym (c .before .before .is-start .ensures) ∙ c .before .if1 .left))
+returns-2 c =
+    let further = c .before in
+    c .judge-later .ensures
+    ∙ sym (judge-further _ _ _ (sym (further .before .is-start .ensures) ∙ further .if1 .left))
 
 -- ---- found by search
 

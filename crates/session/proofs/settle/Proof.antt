@@ -5,9 +5,14 @@ use mathlib.Core.List.{List}
 use Prim.Native.Nat.{ℕ}
 use borrow.Author.Needs.{needs}
 use Rattle.session.proofs.Laws.{within-opened, within-wanted}
+use Rattle.session.specs.declared.Session.{Session}
+use Rattle.session.specs.declared.Standing.{Standing}
 use Rattle.session.specs.After.{after}
 use Rattle.session.proofs.settle.Statement.{statement}
 use Rattle.session.proofs.settle.Tie as tie
+
+abbrev standing-with : Standing → List ℕ → Session
+standing-with st ps = record { standing = st; parts = ps }
 
 open-part-requires : tie.Need-open-part-requires
 open-part-requires c κs =
@@ -32,13 +37,13 @@ returns-3 : tie.Need-returns-3
 unfolding after
 returns-3 c =
     let known = c .before .before .before in
-    rw (known .verdict2 .given .1) (ap (λ (ps : List ℕ). record { standing = known .verdict2 .given .0 .0; parts = ps }) (c .open-part .ensures))
+    rw (known .verdict2 .given .1) (ap (standing-with (known .verdict2 .given .0 .0)) (c .open-part .ensures))
 
 returns-4 : tie.Need-returns-4
 unfolding after
 returns-4 c =
     let known = c .before .before .before in
-    rw (known .verdict3 .given .1) (ap (λ (ps : List ℕ). record { standing = known .verdict3 .given .0 .0; parts = ps }) (c .close-part .ensures))
+    rw (known .verdict3 .given .1) (ap (standing-with (known .verdict3 .given .0 .0)) (c .close-part .ensures))
 
 -- ---- found by search
 

@@ -15,10 +15,15 @@ returns-2 : tie.Need-returns-2
 returns-2 c = sym (first-type _ _ (c .before .before .if1 .left) (c .if2 .taken))
 
 returns-3 : tie.Need-returns-3
-returns-3 c = let far = c .before .before in sym (first-sub _ _ (far .before .before .if1 .left) (far .if2 .left) (c .if3 .taken))
+returns-3 c =
+    let far = c .before .before in
+    sym (first-sub _ _ (far .before .before .if1 .left) (far .if2 .left) (c .if3 .taken))
 
 returns-4 : tie.Need-returns-4
-returns-4 c = let sub = c .before in let far = sub .before .before in sym (first-length _ _ (far .before .before .if1 .left) (far .if2 .left) (sub .if3 .left) (c .if4 .taken))
+returns-4 c =
+    let sub = c .before in
+    let far = sub .before .before in
+    sym (first-length _ _ (far .before .before .if1 .left) (far .if2 .left) (sub .if3 .left) (c .if4 .taken))
 
 returns-5 : tie.Need-returns-5
 returns-5 c =

@@ -11,10 +11,15 @@ returns : tie.Need-returns
 returns c = sym (in-length _ _ _ _ (c .before .u2 .ensures) (c .if1 .taken))
 
 returns-2 : tie.Need-returns-2
-returns-2 c = let two = c .before .before in sym (in-version _ _ _ _ (two .before .u2 .ensures) (two .if1 .left) (c .if2 .taken))
+returns-2 c =
+    let two = c .before .before in
+    sym (in-version _ _ _ _ (two .before .u2 .ensures) (two .if1 .left) (c .if2 .taken))
 
 returns-3 : tie.Need-returns-3
-returns-3 c = let two = c .before .before .before in ap Taken (c .in-order .ensures) ∙ sym (in-taken _ _ _ _ (two .before .u2 .ensures) (two .if1 .left) (c .before .if2 .left))
+returns-3 c =
+    let two = c .before .before .before in
+    ap Taken (c .in-order .ensures)
+    ∙ sym (in-taken _ _ _ _ (two .before .u2 .ensures) (two .if1 .left) (c .before .if2 .left))
 
 -- ---- found by search
 

@@ -23,7 +23,8 @@ use Rattle.session.proofs.later.judge_later.Statement.{statement}
 use Rattle.session.proofs.later.judge_later.Tie as tie
 
 framed : (c : tie.Else1)
-    → isRecord (c .before .before .before .before .args .st .order) (now (c .before .before .before .before .args .rec)) ≡ true
+    → let a = c .before .before .before .before .args in
+    isRecord (a .st .order) (now (a .rec)) ≡ true
 framed c = sym (c .before .is-record .ensures) ∙ not-false _ (c .if1 .left)
 
 -- the place behind the test of the kind, and the one where its step is known
@@ -31,9 +32,9 @@ known-there : (c : tie.Else2) → known (c .before .before .kind-of .result) ≡
 known-there c = sym (c .before .is-known .ensures) ∙ not-false _ (c .if2 .left)
 
 stepped : (c : tie.After-known-told)
-    → goes (c .before .before .before .before .before .before .before .before .before .before .before .before .before .args .st .place)
-    (c .before .before .before .before .before .before .kind-of .result)
-    ≡ To (c .before .step .given .0 .0)
+    → let named = c .before .before .before .before .before .before in
+    let a = named .before .before .before .before .before .before .before .args in
+    goes (a .st .place) (named .kind-of .result) ≡ To (c .before .step .given .0 .0)
 stepped c = sym (c .before .before .before .next-place .ensures) ∙ c .before .step .given .1
 
 read : (c : tie.After-read-body)
@@ -105,7 +106,8 @@ returns-5 c =
     let a = named .before .before .before .before .before .before .before .args in
     let fit = c .before .before .before in
     c .judge-said .ensures
-    ∙ ap (λ (s : Standing). judgeSaid s (take (s .opened) (now (a .parts))) (fit .reading .given .0 .0)) (c .before .placed .ensures)
+    ∙ ap (λ (s : Standing). judgeSaid s (take (s .opened) (now (a .parts))) (fit .reading .given .0 .0))
+    (c .before .placed .ensures)
     ∙ sym
     (later-said _ _ _ (framed (named .before .before .before)) _ (named .kind-of .ensures) (known-there told) _
     (stepped kt) _ (sym (read (fit .before .before)) ∙ fit .reading .given .1))

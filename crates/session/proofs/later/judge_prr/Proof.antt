@@ -13,7 +13,9 @@ use Rattle.session.specs.declared.Verdict.the-variants.{Wanted}
 use Rattle.session.proofs.later.judge_prr.Statement.{statement}
 use Rattle.session.proofs.later.judge_prr.Tie as tie
 
-there : (c : tie.Then1) → let a = c .before .before .before .before .args in held (a .part) (take (a .st .opened) (now (a .parts))) ≡ true
+there : (c : tie.Then1)
+    → let a = c .before .before .before .before .args in
+    held (a .part) (take (a .st .opened) (now (a .parts))) ≡ true
 there c = sym (c .before .holds .ensures) ∙ c .if1 .taken
 
 returns : tie.Need-returns

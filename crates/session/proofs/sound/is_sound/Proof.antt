@@ -7,7 +7,10 @@ use Rattle.session.proofs.sound.is_sound.Statement.{statement}
 use Rattle.session.proofs.sound.is_sound.Tie as tie
 
 returns : tie.Need-returns
-returns c = c .stands-right .ensures ∙ sym (sound-stands _ (sym (c .before .before .parts-right .ensures) ∙ c .before .if1 .taken))
+returns c =
+    let fine = c .before in
+    c .stands-right .ensures
+    ∙ sym (sound-stands _ (sym (fine .before .parts-right .ensures) ∙ fine .if1 .taken))
 
 returns-2 : tie.Need-returns-2
 returns-2 c = sym (sound-parts _ (sym (c .before .parts-right .ensures) ∙ c .if1 .left))

@@ -12,7 +12,9 @@ returns-2 : tie.Need-returns-2
 returns-2 c = sym (yet-pcr (c .before .before .before .args .st) (c .before .if1 .left) (c .if2 .taken))
 
 returns-3 : tie.Need-returns-3
-returns-3 c = sym (yet-results (c .before .before .before .before .args .st) (c .before .before .if1 .left) (c .before .if2 .left))
+returns-3 c =
+    let none = c .before .before in
+    sym (yet-results (none .before .before .args .st) (none .if1 .left) (c .before .if2 .left))
 
 pub nothing-yet-spec : {M : Type 1} → statement M
 nothing-yet-spec = tie.close (tie.spec returns returns-2 returns-3)

@@ -10,7 +10,11 @@ returns : tie.Need-returns
 returns c = sym (parts-many _ _ (c .if1 .taken))
 
 returns-2 : tie.Need-returns-2
-returns-2 c = sym (parts-none _ _ (c .before .before .before .before .if1 .left) (sym (c .before .before .is-rising .ensures) ∙ c .before .if2 .taken) (c .if3 .taken))
+returns-2 c =
+    let rises = c .before in
+    let few = rises .before .before .before in
+    sym
+    (parts-none _ _ (few .if1 .left) (sym (rises .before .is-rising .ensures) ∙ rises .if2 .taken) (c .if3 .taken))
 
 returns-3 : tie.Need-returns-3
 returns-3 c =
@@ -22,7 +26,9 @@ returns-3 c =
     (few .before .pre))
 
 returns-4 : tie.Need-returns-4
-returns-4 c = sym (parts-fall _ _ (c .before .before .before .if1 .left) (sym (c .before .is-rising .ensures) ∙ c .if2 .left))
+returns-4 c =
+    let few = c .before .before .before in
+    sym (parts-fall _ _ (few .if1 .left) (sym (c .before .is-rising .ensures) ∙ c .if2 .left))
 
 -- ---- found by search
 

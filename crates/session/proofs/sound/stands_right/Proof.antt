@@ -19,10 +19,14 @@ returns-4 : tie.Need-returns-4
 returns-4 c = rw (c .before .enum-told4 .given .1) (c .nothing-yet4 .ensures)
 
 returns-6 : tie.Need-returns-6
-returns-6 c = rw (c .before .before .enum-told6 .given .1) (sym (ended-by-pcr (c .before .before .before .before .args .st) (c .if1 .taken)))
+returns-6 c =
+    let told = c .before .before in
+    rw (told .enum-told6 .given .1) (sym (ended-by-pcr (told .before .before .args .st) (c .if1 .taken)))
 
 returns-7 : tie.Need-returns-7
-returns-7 c = rw (c .before .before .enum-told6 .given .1) (sym (ended-open (c .before .before .before .before .args .st) (c .if1 .left)))
+returns-7 c =
+    let told = c .before .before in
+    rw (told .enum-told6 .given .1) (sym (ended-open (told .before .before .args .st) (c .if1 .left)))
 
 -- ---- found by search
 
