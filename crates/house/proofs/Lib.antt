@@ -1,3 +1,5 @@
 pub mod Laws
 pub mod Delivering
 pub mod Calling
+pub mod Typed
+pub mod Reporting

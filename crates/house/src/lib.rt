@@ -3,6 +3,7 @@
 // soundness and answers, whatever is handed in.
 mod calls;
 mod core;
+mod reports;
 mod rooms;
 mod sound;
 
@@ -11,6 +12,7 @@ use session::Session;
 use session::Standing;
 ghost use mathlib.Core.Path.{_≡_};
 ghost use Rattle.house.specs.House.{closedSlot, openedSlot, fresh};
+pub use reports::report;
 pub use sound::is_sound;
 
 // A slot: closed, or a session with its floor.
