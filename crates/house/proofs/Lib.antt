@@ -1,5 +1,4 @@
 pub mod Laws
 pub mod Delivering
 pub mod Calling
-pub mod Typed
 pub mod Reporting

@@ -12,7 +12,9 @@ use session::Session;
 use session::Standing;
 ghost use mathlib.Core.Path.{_≡_};
 ghost use Rattle.house.specs.House.{closedSlot, openedSlot, fresh};
+pub use reports::judge_report;
 pub use reports::report;
+pub use reports::row_at;
 pub use sound::is_sound;
 
 // A slot: closed, or a session with its floor.

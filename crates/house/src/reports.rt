@@ -12,7 +12,7 @@ ghost use lib.ListN.{length};
 ghost use Rattle.house.specs.Report.{rowAt, rowsOf, reported, filled};
 
 // What a report of a slot is answered, and how many rows it has, where `long` is the room for them.
-fn judge_report(house: House, slot: u32, long: usize) -> Reported
+pub fn judge_report(house: House, slot: u32, long: usize) -> Reported
     ensures { λ r. ⌜ r ≡ reported house slot long ⌝ }
 {
     if !is_sound(house) {
@@ -50,7 +50,7 @@ fn judge_report(house: House, slot: u32, long: usize) -> Reported
 }
 
 // The i-th row of a slot's report. Its count fits: it is part of the slot's sum, which is the number of its PRRs.
-fn row_at(house: House, slot: u32, i: usize) -> Row
+pub fn row_at(house: House, slot: u32, i: usize) -> Row
     requires { ⌜ i < rowsOf house slot ⌝ }
     ensures { λ r. ⌜ r ≡ rowAt house slot i ⌝ }
 {

@@ -8,7 +8,8 @@ use borrow.Author.Tests.{not-true, not-false}
 use Rattle.house.specs.House.{sound}
 use Rattle.house.specs.Calls.{slotAt}
 use Rattle.house.proofs.Reporting.{report-unsound, report-no-slot, report-closed, report-short, report-done}
-use Rattle.house.proofs.Reporting.{fine-within, fine-rises}
+use Rattle.house.proofs.Calling.{told-within}
+use Rattle.house.proofs.Reporting.{told-rises}
 use Rattle.house.proofs.reports.judge_report.Statement.{statement}
 use Rattle.house.proofs.reports.judge_report.Tie as tie
 use Rattle.house.proofs.reports.judge_report.Reads as reads
@@ -43,27 +44,30 @@ element-copy-out-s c = search needs
 
 -- src/reports.rt:34:9
 returns-3 : tie.Need-returns-3
-returns-3 c = 
+returns-3 c =
     let there = c .before .before .before in
     sym (report-closed _ _ _ (fine (there .before)) (there .if2 .left) (not-true _ (c .if3 .taken)))
 
 -- src/reports.rt:39:9
 held-by-requires : tie.Need-held-by-requires
-held-by-requires c κs = 
+held-by-requires c κs =
     let there = c .before .before .before .before .before .before in
-    let h = there .before .before .before .args .house in
-    (there .if2 .left, omega (arith, long (there .before .before .before), fine-within h (fine (there .before))), fine-rises h (fine (there .before)))
+    let h = there .before .before .before .args .house in (
+      there .if2 .left,
+      omega (arith, long (there .before .before .before), told-within h (fine (there .before))),
+      told-rises h (fine (there .before)),
+    )
 
 -- src/reports.rt:41:9
 returns-4 : tie.Need-returns-4
-returns-4 c = 
+returns-4 c =
     let opened = c .before .before .before .before .before in
     let there = opened .before .before .before in
     sym (report-short _ _ _ (fine (there .before)) (there .if2 .left) (not-false _ (opened .if3 .left)) _ (c .before .held-by .ensures) (c .if4 .taken))
 
 -- src/reports.rt:15:1
 returns-5 : tie.Need-returns-5
-returns-5 c = 
+returns-5 c =
     let opened = c .before .before .before .before .before in
     let there = opened .before .before .before in
     sym (report-done _ _ _ (fine (there .before)) (there .if2 .left) (not-false _ (opened .if3 .left)) _ (c .before .held-by .ensures) (c .if4 .left))

@@ -7,9 +7,8 @@ use Rattle.rows.specs.Rows.{slotRank}
 use Rattle.house.specs.House.{keysOf}
 use Rattle.house.specs.Calls.{slotAt}
 use Rattle.house.specs.Report.{rowAt}
-use Rattle.house.proofs.Typed.{results-fit}
-use Rattle.house.proofs.Reporting.{fine-within, fine-rises}
-use Rattle.house.proofs.Reporting.{row-fine, row-there, row-used, row-count, row-told}
+use Rattle.house.proofs.Calling.{told-within}
+use Rattle.house.proofs.Reporting.{told-rises, row-fine, row-there, row-slot, row-used, row-count, row-told}
 use Rattle.house.proofs.reports.row_at.Statement.{statement}
 use Rattle.house.proofs.reports.row_at.Tie as tie
 use Rattle.house.proofs.reports.row_at.Reads as reads
@@ -34,9 +33,9 @@ inside c =
     let start = c .before .before .before .before in
     let h = start .args .house in
     let row = row-used h (start .args .slot) (start .args .i) (start .pre) (long start) in
-    omega (arith, stands c, row, fine-within h (row-fine h (start .args .slot) (start .args .i) (start .pre)))
+    omega (arith, stands c, row, told-within h (row-fine h (start .args .slot) (start .args .i) (start .pre)))
 
--- its count is within the slot's results, which are a u32
+-- its count is within the slot's results, which are at most 4,294,967,295
 low : (c : tie.After-slot-rank)
     → getD (c .before .before .before .before .args .house .counts)
     (c .slot-rank .result + c .before .before .before .before .args .i) 0
@@ -46,14 +45,17 @@ low c =
     let h = start .args .house in
     let slot = start .args .slot in
     let sum = row-count h slot (start .args .i) (start .pre) (long start) (paired start) in
-    rw (stands c) (omega (arith, sum, results-fit h _ slot (start .good .0)))
+    rw (stands c) (omega (arith, sum, row-slot h slot (start .args .i) (start .pre) .few))
 
 slot-rank-requires : tie.Need-slot-rank-requires
-slot-rank-requires c κs = 
+slot-rank-requires c κs =
     let start = c .before .before .before in
     let h = start .args .house in
-    let fine = row-fine h (start .args .slot) (start .args .i) (start .pre) in
-    (omega (arith, row-there h (start .args .slot) (start .args .i) (start .pre)), omega (arith, long start, fine-within h fine), fine-rises h fine)
+    let fine = row-fine h (start .args .slot) (start .args .i) (start .pre) in (
+      omega (arith, row-there h (start .args .slot) (start .args .i) (start .pre)),
+      omega (arith, long start, told-within h fine),
+      told-rises h fine,
+    )
 
 -- src/reports.rt:58:14
 add-at : tie.Need-add-at
