@@ -2,3 +2,4 @@ pub mod Once
 pub mod Parts
 pub mod Both
 pub mod Table
+pub mod Each

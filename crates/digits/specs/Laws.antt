@@ -1,0 +1,34 @@
+-- What is shown of decimal text: statements only. Each is proved in proofs/Laws.antt, under its name in small letters.
+-- Assumes nothing.
+use mathlib.Core.Path.{_≡_}
+use mathlib.Core.Bool.{true}
+use Prim.Native.Nat.{ℕ, _≤_, _<_, _^_}
+use Prim.Native.Char.{code}
+use lib.ListN.{length, getD}
+use Rattle.words.specs.Each.{each}
+use Rattle.digits.specs.declared.Numeral.the-variants.{Value}
+use Rattle.digits.specs.Digits.{digits, isDigit, decimal, numeral}
+
+-- a number of four bytes has at most ten digits
+abbrev pub DigitsMost : Type 0
+DigitsMost = (n : ℕ) → n < 2 ^ 32 → length (digits n) ≤ 10
+
+-- and every number has one
+abbrev pub DigitsSome : Type 0
+DigitsSome = (n : ℕ) → 1 ≤ length (digits n)
+
+-- decimal without leading zeros: only 0 begins with one
+abbrev pub NoLeadingZero : Type 0
+NoLeadingZero = (n : ℕ) → 1 ≤ n → code "0" < getD (digits n) 0 0
+
+-- every byte is a digit
+abbrev pub DigitsDigits : Type 0
+DigitsDigits = (n : ℕ) → each isDigit (digits n) ≡ true
+
+-- the digits of a number are worth the number
+abbrev pub DecimalDigits : Type 0
+DecimalDigits = (n : ℕ) → decimal (digits n) ≡ n
+
+-- a number, written and read back, is the number
+abbrev pub NumeralDigits : Type 0
+NumeralDigits = (n : ℕ) → n < 2 ^ 32 → numeral (digits n) ≡ Value n
