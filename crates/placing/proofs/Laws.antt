@@ -71,12 +71,13 @@ module _ (d t old : List ℕ) (h : Room (d ++ t) old) where
 
 -- ---- a part of a source, byte after byte
 
-module _ (at len i : ℕ) (source old : List ℕ) (h : at + len ≤ length source) (g : len ≤ length old) where
+module _ (at len : ℕ) (source : List ℕ) (h : at + len ≤ length source) where
   pub length-part : length (part at len source) ≡ len
   length-part = simp (length-take, length-drop) (omega arith)
 
-  pub part-more : i < len → set (over (part at i source) old) i (getD source (at + i) 0) ≡ over (part at (i + 1) source) old
-  part-more k =
+  pub part-more : (i : ℕ) (old : List ℕ) → i < len → len ≤ length old
+      → set (over (part at i source) old) i (getD source (at + i) 0) ≡ over (part at (i + 1) source) old
+  part-more i old k g =
       let short : i < length (drop at source) = omega (arith, length-drop at source) in
       let is : length (part at i source) ≡ i = length-take-le i (drop at source) (omega arith) in
       rw (add-one i, take-suc (drop at source) i 0 short, getD-drop at source i 0)

@@ -22,21 +22,21 @@ abbrev μ-loop : tie.MeasureT-loop
 loop-again : tie.Need-loop-again Inv-loop μ-loop
 loop-again c =
     let l = c .before .before in
-    let a = l .before .args in
-    let h : a .at + a .len ≤ length (now (a .source)) = l .before .pre .0 in
-    let g : a .len ≤ length (now (a .out)) = l .before .pre .1 in (
+    let s = l .before in
+    let a = s .args in (
       omega arith,
       simp length-set (l .loop .inv .1),
-      rw (l .loop .inv .2) (part-more (a .at) (a .len) (l .loop .i) (now (a .source)) (now (a .out)) h g (omega arith)),
+      rw (l .loop .inv .2)
+          (part-more (a .at) (a .len) (now (a .source)) (s .pre .0) (l .loop .i) (now (a .out)) (omega arith) (s .pre .1)),
     )
 
 returns : tie.Need-returns Inv-loop μ-loop
 returns c =
     let l = c .before in
-    let a = l .before .args in
-    let all : l .loop .i ≡ a .len = omega arith in
+    let s = l .before in
+    let all : l .loop .i ≡ s .args .len = omega arith in
     record {
-      count = sym (length-part (a .at) (a .len) (a .len) (now (a .source)) (now (a .out)) (l .before .pre .0) (l .before .pre .1));
+      count = sym (length-part (s .args .at) (s .args .len) (now (s .args .source)) (s .pre .0));
       laid = rw all at (l .loop .inv .2);
     }
 

@@ -1,0 +1,3 @@
+pub mod Laid
+pub mod Judges
+pub mod Allowed

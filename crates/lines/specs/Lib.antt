@@ -1,0 +1,5 @@
+pub mod Columns
+pub mod Entries
+pub mod Layouts
+pub mod Records
+pub mod Writing
