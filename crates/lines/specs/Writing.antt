@@ -1,15 +1,13 @@
 -- Writing: from a record to its line. Document 01, "Count lines", Written, and orders of checks, Writing checks 4, 3, 6, 7, 19,
 -- 17.
 --
---   allowed       the bytes that a name may hold
---   checked       a record whose text can be written
+--   entryAllowed  whether an entry can be written as text
 --   textFor       the text that a record makes, or what it is refused with
 --   lineWritten   the outcome of writing: the answer, and every byte of the output
 -- Assumes nothing.
-use mathlib.Core.Bool.{Bool, true, not, _&&_}
+use mathlib.Core.Bool.{Bool, true}
 use mathlib.Core.List.{List}
 use Prim.Native.Nat.{ℕ}
-use lib.Dec.{eqb, leb}
 use Rattle.words.specs.Choice.{_unless_then_}
 use Rattle.words.specs.Each.{each}
 use Rattle.answers.specs.declared.Answer.the-variants.{UnknownOrder, NameNotText}
@@ -18,14 +16,11 @@ use Rattle.numbers.specs.declared.Ordering.{Ordering}
 use Rattle.numbers.specs.declared.Ordering.the-variants.{Known, Unknown}
 use Rattle.numbers.specs.Orders.{orderOf}
 use Rattle.placing.specs.Placed.{Making, Makes, Refuses, Outcome, placed}
-use Rattle.lines.specs.Columns.{separator}
-use Rattle.lines.specs.Entries.{Entry, Missing, Number, Text, Meaning}
-use Rattle.lines.specs.Layouts.{textOf}
-use Rattle.lines.specs.Records.{Judging, Says, Faulty, meaning}
-
--- names hold bytes 32 to 126 without `|`
-unfoldable pub allowed : ℕ → Bool
-allowed b = leb 32 b && (leb b 126 && not (eqb b separator))
+use Rattle.layouts.specs.Entries.{Entry, Missing, Number, Text, Meaning}
+use Rattle.layouts.specs.Layouts.{textOf}
+use Rattle.layouts.specs.Names.{allowed}
+use Rattle.layouts.specs.Judging.{Judging, Says, Faulty}
+use Rattle.records.specs.Records.{meaning}
 
 abbrev pub entryAllowed : Entry → Bool
 entryAllowed Missing = true

@@ -9,10 +9,10 @@ use borrow.Author.Needs.{needs}
 use borrow.Author.Tests.{not-true, not-false}
 use Rattle.words.specs.Each.{each}
 use Rattle.words.proofs.Each.{each-ends, each-fails, each-on}
-use Rattle.lines.specs.Columns.{columns}
-use Rattle.lines.specs.Entries.{Entry, Missing, entriesOf}
+use Rattle.layouts.specs.Columns.{columns}
+use Rattle.layouts.specs.Entries.{Entry, Missing, entriesOf}
 use Rattle.lines.specs.Writing.{entryAllowed}
-use Rattle.lines.proofs.Laid.{said-at, length-entries}
+use Rattle.layouts.proofs.Laid.{said-at, length-entries}
 use Rattle.lines.proofs.writing.line_allowed.Statement.{statement}
 use Rattle.lines.proofs.writing.line_allowed.Tie as tie
 
