@@ -84,7 +84,7 @@ fn put_number(out: &mut [u8], order: Order, form: Form, n: u32) -> usize
     1
 }
 
-fn is_name(form: Form) -> bool
+pub fn is_name(form: Form) -> bool
     ensures { λ r. ⌜ r ≡ isName form ⌝ }
 {
     match form {
@@ -240,7 +240,7 @@ fn fields_size(layout: Layout, source: &[u8], line: Line, n: usize) -> usize
     size
 }
 
-fn is_missing(said: Said) -> bool
+pub fn is_missing(said: Said) -> bool
     ensures { λ r. ⌜ r ≡ isMissing said ⌝ }
 {
     match said {

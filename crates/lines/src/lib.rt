@@ -1,4 +1,5 @@
 // Count lines of ATDF and the records they stand for, from either one to the other: document 01, "Count lines".
+mod reading;
 mod writing;
 
 use answers::Answer;
@@ -7,6 +8,7 @@ use placing::Written;
 ghost use mathlib.Core.Path.{_≡_};
 ghost use Rattle.placing.specs.Placed.{outcome};
 ghost use Rattle.lines.specs.Writing.{lineWritten};
+ghost use Rattle.lines.specs.Reading.{lineRead};
 
 // Writes the line of one record, in the byte order of a CPU_TYPE, at the offset `at` of the lent output.
 pub fn write_line(order: u8, record: &[u8], out: &mut [u8], at: usize) -> Written
@@ -14,6 +16,16 @@ pub fn write_line(order: u8, record: &[u8], out: &mut [u8], at: usize) -> Writte
 {
     match numbers::order_of(order) {
         Ordering::Known(order) => writing::write_in(out, at, order, record),
+        Ordering::Unknown => Written::Refused(Answer::UnknownOrder),
+    }
+}
+
+// Reads one line and writes its record, in the byte order of a CPU_TYPE, at the offset `at` of the lent output.
+pub fn read_line(order: u8, line: &[u8], out: &mut [u8], at: usize) -> Written
+    ensures { λ r. ⌜ outcome r (now (out .exit)) ≡ lineRead order (now (line .entry)) (now (out .entry)) at ⌝ }
+{
+    match numbers::order_of(order) {
+        Ordering::Known(order) => reading::read_in(out, at, order, line),
         Ordering::Unknown => Written::Refused(Answer::UnknownOrder),
     }
 }

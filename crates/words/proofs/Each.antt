@@ -5,9 +5,10 @@ use mathlib.Core.Bool.{Bool, true, false, _&&_}
 use mathlib.Core.List.{List, [], _∷_, _++_}
 use Prim.Native.Nat.{ℕ, zero, suc, _+_, _≤_, _<_}
 use native.Mathlib.Numerals.{add-one}
+use native.Mathlib.Omega.{arith}
 use lib.ListN.{length, getD, take, drop, drop-of-length-le}
 use lib.Seq.{drop-cons}
-use Rattle.words.specs.Each.{each, EachAppend, EachTake}
+use Rattle.words.specs.Each.{each, EachAppend, EachTake, EachAt}
 use Rattle.words.proofs.Both.{both-left, both-right}
 
 both-assoc : (a b c : Bool) → ((a && b) && c) ≡ (a && (b && c))
@@ -27,6 +28,12 @@ each-take A passes (suc n) (x ∷ xs) e =
       both-left (passes x) (each passes xs) e,
       each-take A passes n xs (both-right (passes x) (each passes xs) e),
     )
+
+pub each-at : EachAt
+each-at A passes [] none i e h = absurd (omega arith)
+each-at A passes (x ∷ xs) none zero e h = both-left (passes x) (each passes xs) e
+each-at A passes (x ∷ xs) none (suc i) e h =
+    each-at A passes xs none i (both-right (passes x) (each passes xs) e) (omega arith)
 
 -- ---- the walk, at element i
 

@@ -1,0 +1,43 @@
+-- `lines::reading::read_content` meets its contract: 18, or else the record is placed.
+-- Assumes nothing.
+use borrow.Author.Needs.{needs}
+use Rattle.lines.proofs.reading.read_content.Statement.{statement}
+use Rattle.lines.proofs.reading.read_content.Tie as tie
+
+place-requires : tie.Need-place-requires
+place-requires c κs =
+    c .before .before .before .before .judge-content .ensures .there (c .before .enum-told .given .1)
+
+returns : tie.Need-returns
+returns c =
+    rw (← c .before .before .before .before .judge-content .ensures .means, c .before .fault .given .1)
+
+returns-2 : tie.Need-returns-2
+returns-2 c =
+    rw (← c .before .before .before .before .before .before .before .judge-content .ensures .means, c .before .before .before .before .enum-told .given .1) (c .before .before .place .ensures)
+
+-- ---- found by search
+
+judge-content-requires : tie.Need-judge-content-requires
+judge-content-requires c κs = search needs
+
+enum-known-fault : tie.Need-enum-known-fault
+enum-known-fault c = search needs
+
+enum-told : tie.Need-enum-told
+enum-told c = search needs
+
+same-length : tie.Need-same-length
+same-length c = search needs
+
+pub read-content-spec : {M : Type 1} → statement M
+read-content-spec =
+    tie.close
+    (tie.spec
+    judge-content-requires
+    enum-known-fault
+    enum-told
+    place-requires
+    returns
+    same-length
+    returns-2)

@@ -1,0 +1,31 @@
+// From a line to its record: document 01, "Count lines", Read.
+use layouts::Fault;
+use layouts::Layout;
+use layouts::laying::place;
+use numbers::Order;
+use placing::Written;
+use texts::contents::ending_of;
+use texts::contents::judge_content;
+ghost use mathlib.Core.Path.{_≡_};
+ghost use Rattle.placing.specs.Placed.{outcome, placed};
+ghost use Rattle.texts.specs.Texts.{contentMeans, lineMeaning};
+ghost use Rattle.lines.specs.Reading.{recordMade};
+
+fn read_content(out: &mut [u8], at: usize, order: Order, s: &[u8]) -> Written
+    ensures { λ r. ⌜ outcome r (now (out .exit)) ≡ placed (recordMade order (contentMeans (now (s .entry)))) (now (out .entry)) at ⌝ }
+{
+    let judged = judge_content(s);
+    let fault = judged.fault;
+    let line = judged.line;
+    match fault {
+        Fault::Found(answer) => Written::Refused(answer),
+        Fault::None => place(out, at, Layout::Record(order), s, line),
+    }
+}
+
+pub fn read_in(out: &mut [u8], at: usize, order: Order, line: &[u8]) -> Written
+    ensures { λ r. ⌜ outcome r (now (out .exit)) ≡ placed (recordMade order (lineMeaning (now (line .entry)))) (now (out .entry)) at ⌝ }
+{
+    let end = line.len() - ending_of(line);
+    read_content(out, at, order, &line[..end])
+}

@@ -1,0 +1,4 @@
+pub mod Fits
+pub mod Cuts
+pub mod Fills
+pub mod Whole
