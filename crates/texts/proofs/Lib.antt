@@ -2,3 +2,4 @@ pub mod Fits
 pub mod Cuts
 pub mod Fills
 pub mod Whole
+pub mod Canonical
