@@ -1,4 +1,5 @@
-// Count lines, both ways: a transcript to be held against document 01, "Count lines" and M9 to M12. A case is a line of its
+// Count lines, both ways: a transcript to be held against document 01, "Count lines" and M9 to M12. A case is a line
+// of its
 // own: the call, its order, what was given, the answer's number and, where it is 0, what was written.
 use libc::STDOUT_FILENO;
 use placing::Written;

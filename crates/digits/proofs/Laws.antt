@@ -1,4 +1,5 @@
--- The statements of specs/Laws.antt, proved; how digits go on with the quotient; and how a numeral is read, digit by digit.
+-- The statements of specs/Laws.antt, proved; how digits go on with the quotient; and how a numeral is read, digit by
+-- digit.
 -- Assumes nothing.
 use mathlib.Core.Path.{_≡_, refl, ap, _∙_}
 use mathlib.Core.Logic.{_⊎_, ⊎-elim, inl, inr}
@@ -47,7 +48,8 @@ unfolding digits
 digits-more zero h = absurd (omega arith)
 digits-more (suc n) h =
     rw (le-ltb (suc n) 10 h)
-    (ap (λ (l : List ℕ). l ++ digit (suc n % 10) ∷ []) (within-same n (suc n / 10) (suc n / 10) (omega arith) (omega arith)))
+    (ap (λ (l : List ℕ). l ++ digit (suc n % 10) ∷ []) (within-same n (suc n / 10) (suc n / 10) (omega arith)
+    (omega arith)))
 
 pub length-one : (n : ℕ) → n < 10 → length (digits n) ≡ 1
 length-one n h = rw (digits-one n h)
@@ -60,7 +62,8 @@ module _ (P : ℕ → Type 0) (one : (n : ℕ) → n < 10 → P n) (more : (n : 
   by-depth : (depth n : ℕ) → n ≤ depth → P n
   by-depth zero n h = one n (omega arith)
   by-depth (suc depth) n h =
-      ⊎-elim (λ (s : n < 10). one n s) (λ (s : 10 ≤ n). more n s (by-depth depth (n / 10) (omega arith))) (small-or-not n)
+      ⊎-elim (λ (s : n < 10). one n s) (λ (s : 10 ≤ n). more n s (by-depth depth (n / 10) (omega arith)))
+      (small-or-not n)
 
   pub by-quotient : (n : ℕ) → P n
   by-quotient n = by-depth n n (omega arith)
@@ -88,7 +91,11 @@ pub no-leading-zero : NoLeadingZero
 no-leading-zero =
     by-quotient (λ (n : ℕ). 1 ≤ n → code "0" < getD (digits n) 0 0)
     (λ n s h. rw (digits-one n s) (omega arith))
-    (λ n s ih h. rw (digits-more n s, List·getD-append (digits (n / 10)) (digit (n % 10) ∷ []) 0 0 (digits-some (n / 10)))
+    (λ n s ih h. rw (
+      digits-more n s,
+      List·getD-append (digits (n / 10)) (digit (n % 10) ∷ []) 0 0
+          (digits-some (n / 10)),
+    )
     (ih (omega arith)))
 
 -- ---- every byte is a digit, worth what it stands for

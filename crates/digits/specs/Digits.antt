@@ -1,4 +1,5 @@
--- Decimal text of a number. Document 01, "Count lines", Written, decimal without leading zeros, and Read, one to ten digits.
+-- Decimal text of a number. Document 01, "Count lines", Written, decimal without leading zeros, and Read, one to ten
+-- digits.
 --
 --   digits     the text of a number, by recursion on the quotient
 --   isDigit    which bytes are digits
@@ -20,8 +21,10 @@ use Rattle.digits.specs.declared.Numeral.the-variants.{Value, NotANumber
 abbrev pub digit : ℕ → ℕ
 digit n = n + code "0"
 
--- The digits of the quotient by ten, then that of the remainder. The first argument bounds how deep the quotients go; the
--- second says whether the number is below ten, and is matched on, since a call under a choice is computed though not chosen.
+-- The digits of the quotient by ten, then that of the remainder. The first argument bounds how deep the quotients go;
+-- the
+-- second says whether the number is below ten, and is matched on, since a call under a choice is computed though not
+-- chosen.
 abbrev pub digitsWithin : ℕ → Bool → ℕ → List ℕ
 digitsWithin zero small n = []
 digitsWithin (suc depth) true n = digit n ∷ []

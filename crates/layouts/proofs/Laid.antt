@@ -28,8 +28,10 @@ use Rattle.layouts.specs.declared.Layout.the-variants as layout
 use Rattle.layouts.specs.declared.Form.{Form}
 use Rattle.layouts.specs.declared.Form.the-variants.{U1, U2, U4, C1, Cn}
 use Rattle.layouts.specs.Columns.{columns, noColumn, width}
-use Rattle.layouts.specs.Entries.{Entry, Missing, Number, Text, named, entryOf, entriesOf, meaningOf, noField, isMissing, Within, kept, present}
-use Rattle.layouts.specs.Layouts.{entryText, isName, countedName, counted, mark, marked, isLast, laid, nthBytes, restOf, Stops, Sized, headOf, laidOut}
+use Rattle.layouts.specs.Entries.{Entry, Missing, Number, Text, named, entryOf, entriesOf, meaningOf, noField}
+use Rattle.layouts.specs.Entries.{isMissing, Within, kept, present}
+use Rattle.layouts.specs.Layouts.{entryText, isName, countedName, counted, mark, marked, isLast, laid}
+use Rattle.layouts.specs.Layouts.{nthBytes, restOf, Stops, Sized, headOf, laidOut}
 
 -- ---- the low bytes of a number
 
@@ -129,7 +131,8 @@ entry-missing source said.Missing e = refl
 entry-missing source (said.Number n) e = let never : _≡_ {A = Bool} false true = e in cc
 entry-missing source (said.Text name) e = let never : _≡_ {A = Bool} false true = e in cc
 
-entry-value : (source : List ℕ) (s : Said) → isMissing s ≡ false → present (entryOf source s ∷ []) ≡ entryOf source s ∷ []
+entry-value : (source : List ℕ) (s : Said) → isMissing s ≡ false → present (entryOf source s ∷ []) ≡ entryOf source
+    s ∷ []
 entry-value source said.Missing e = let never : _≡_ {A = Bool} true false = e in cc
 entry-value source (said.Number n) e = refl
 entry-value source (said.Text name) e = refl
@@ -142,7 +145,8 @@ module _ (source : List ℕ) (line : Line) (seven : length (line .fields) ≡ 7)
   pub said-at : (j : ℕ) → j < length (columns (line .tag))
       → getD entries j Missing ≡ entryOf source (getD (line .fields) j noField .said)
   said-at j h =
-      getD-take (length (columns (line .tag))) (map (λ (x : Field). entryOf source (x .said)) (line .fields)) j Missing h
+      getD-take (length (columns (line .tag))) (map (λ (x : Field). entryOf source (x .said)) (line .fields)) j
+      Missing h
       ∙ getD-map (entryOf source) (line .fields) j
 
   pub length-entries : length entries ≡ length (columns (line .tag))
@@ -159,10 +163,12 @@ module _ (source : List ℕ) (line : Line) (seven : length (line .fields) ≡ 7)
     more : take (j + 1) entries ≡ take j entries ++ entryOf source (getD (line .fields) j noField .said) ∷ []
     more = rw (add-one j, take-suc entries j Missing (omega (arith, length-entries)), said-at j column)
 
-    pub stop-missing : isMissing (getD (line .fields) j noField .said) ≡ true → present (take j entries) ≡ take n entries
+    pub stop-missing : isMissing (getD (line .fields) j noField .said) ≡ true → present (take j entries) ≡ take n
+        entries
         → present (take (j + 1) entries) ≡ take n entries
     stop-missing e so-far =
-        rw (more, entry-missing source (getD (line .fields) j noField .said) e) (present-missing (take j entries) ∙ so-far)
+        rw (more, entry-missing source (getD (line .fields) j noField .said) e)
+        (present-missing (take j entries) ∙ so-far)
 
     pub stop-value : isMissing (getD (line .fields) j noField .said) ≡ false
         → present (take (j + 1) entries) ≡ take (j + 1) entries
@@ -190,7 +196,8 @@ module _ (source : List ℕ) (line : Line) (seven : length (line .fields) ≡ 7)
     unfolding restOf nthBytes laid
     rest-on h few =
         let size : length (take n entries) ≡ n = length-take-le n entries (omega (arith, length-entries)) in
-        let left : length (drop (suc j) (take n entries)) ≡ n - suc j = length-drop (suc j) (take n entries) ∙ ap (λ (k : ℕ). k - suc j) size in
+        let left : length (drop (suc j) (take n entries)) ≡ n - suc j = length-drop (suc j) (take n entries) ∙
+        ap (λ (k : ℕ). k - suc j) size in
         let inside : j < length (take n entries) = omega arith in
         let column : j < length (columns (line .tag)) = omega arith in
         let is : getD (take n entries) j Missing ≡ entryOf source (getD (line .fields) j noField .said) =
@@ -207,7 +214,8 @@ module _ (source : List ℕ) (line : Line) (seven : length (line .fields) ≡ 7)
         → length (restOf layout source line j n)
         ≡ length (nthBytes layout source line j n) + length (restOf layout source line (j + 1) n)
     rest-length h few =
-        ap length (rest-on h few) ∙ length-append (nthBytes layout source line j n) (restOf layout source line (j + 1) n)
+        ap length (rest-on h few) ∙ length-append (nthBytes layout source line j n)
+        (restOf layout source line (j + 1) n)
 
 -- ---- head and fields
 

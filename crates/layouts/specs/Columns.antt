@@ -1,4 +1,5 @@
--- The tables of count lines. Document 01, "Count lines", its first paragraph, and "Record frame and kinds", the fields of PCR,
+-- The tables of count lines. Document 01, "Count lines", its first paragraph, and "Record frame and kinds", the fields
+-- of PCR,
 -- HBR and SBR.
 --
 --   separator, lineFeed, carriageReturn   the bytes between fields and at the end of a line

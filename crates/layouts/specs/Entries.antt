@@ -41,7 +41,8 @@ entryOf source (said.Text name) = Text (named source name)
 
 -- a line of this code has room for the longest table
 abbrev pub entriesOf : List ℕ → Line → List Entry
-entriesOf source line = take (length (columns (line .tag))) (map (λ (f : Field). entryOf source (f .said)) (line .fields))
+entriesOf source line = take (length (columns (line .tag))) (map (λ (f : Field). entryOf source (f .said))
+    (line .fields))
 
 abbrev pub meaningOf : List ℕ → Line → Meaning
 meaningOf source line = record { tag = line .tag; entries = entriesOf source line }

@@ -1,4 +1,5 @@
--- What is written of a meaning, as text and as a record. Document 01, "Count lines", Written, and Read, the record written.
+-- What is written of a meaning, as text and as a record. Document 01, "Count lines", Written, and Read, the record
+-- written.
 --
 --   entryText   an entry in a line
 --   stored      an entry in a record
@@ -23,7 +24,8 @@ use Rattle.layouts.specs.declared.Layout.{Layout}
 use Rattle.layouts.specs.declared.Layout.the-variants as layout
 use Rattle.layouts.specs.declared.Line.{Line}
 use Rattle.layouts.specs.Columns.{separator, lineFeed, tagText, countType, subOf, columns, noColumn, width}
-use Rattle.layouts.specs.Entries.{Entry, Missing, Number, Text, Meaning, entryOf, entriesOf, noField, AllWithin, present}
+use Rattle.layouts.specs.Entries.{Entry, Missing, Number, Text, Meaning, entryOf, entriesOf, noField}
+use Rattle.layouts.specs.Entries.{AllWithin, present}
 
 -- decimal without leading zeros, a missing field empty
 abbrev pub entryText : Entry → List ℕ

@@ -1,4 +1,5 @@
-// Fields laid out one after the other, as the text of a line or as a record: document 01, "Count lines", a stated offset of
+// Fields laid out one after the other, as the text of a line or as a record: document 01, "Count lines", a stated
+// offset of
 // the lent output. Each writer gets the part behind what the last one wrote.
 use super::Field;
 use super::Form;
@@ -25,7 +26,8 @@ ghost use Rattle.numbers.specs.Numbers.{written};
 ghost use Rattle.placing.specs.Placed.{Put, Room, part, outcome, placedAt};
 ghost use Rattle.layouts.specs.Columns.{tagText, columns, width};
 ghost use Rattle.layouts.specs.Entries.{named, entryOf, meaningOf, noField, isMissing, Within, AllWithin, Nth};
-ghost use Rattle.layouts.specs.Layouts.{entryText, missingValue, isName, countedName, counted, stored, mark, marked, nthBytes, restOf, Stops, Sized, headOf, laidOut};
+ghost use Rattle.layouts.specs.Layouts.{entryText, missingValue, isName, countedName, counted, stored, mark};
+ghost use Rattle.layouts.specs.Layouts.{marked, nthBytes, restOf, Stops, Sized, headOf, laidOut};
 
 // An entry in a line.
 fn put_entry(out: &mut [u8], source: &[u8], said: Said) -> usize
@@ -99,7 +101,8 @@ pub fn is_name(form: Form) -> bool
 // A name with its count byte.
 fn put_name(out: &mut [u8], order: Order, source: &[u8], name: Name) -> usize
     requires { ⌜ Within (now source) (Said.Text name) × Room (countedName order (named (now source) name)) (now out) ⌝ }
-    ensures { λ r. ⌜ Put (countedName order (named (now (source .entry)) name)) (now (out .entry)) r (now (out .exit)) ⌝ }
+    ensures { λ r. ⌜ Put (countedName order (named (now (source .entry)) name)) (now (out .entry)) r
+        (now (out .exit)) ⌝ }
 {
     let at = name.at;
     let len = name.len;
@@ -109,8 +112,10 @@ fn put_name(out: &mut [u8], order: Order, source: &[u8], name: Name) -> usize
 
 // Text in a record: a name is counted, P/F is its byte.
 fn put_text(out: &mut [u8], order: Order, form: Form, source: &[u8], name: Name) -> usize
-    requires { ⌜ Within (now source) (Said.Text name) × Room (counted order form (named (now source) name)) (now out) ⌝ }
-    ensures { λ r. ⌜ Put (counted order form (named (now (source .entry)) name)) (now (out .entry)) r (now (out .exit)) ⌝ }
+    requires { ⌜ Within (now source) (Said.Text name)
+        × Room (counted order form (named (now source) name)) (now out) ⌝ }
+    ensures { λ r. ⌜ Put (counted order form (named (now (source .entry)) name)) (now (out .entry)) r
+        (now (out .exit)) ⌝ }
 {
     if is_name(form) {
         put_name(out, order, source, name)
@@ -124,7 +129,8 @@ fn put_text(out: &mut [u8], order: Order, form: Form, source: &[u8], name: Name)
 // An entry in a record.
 fn put_stored(out: &mut [u8], order: Order, form: Form, source: &[u8], said: Said) -> usize
     requires { ⌜ Within (now source) said × Room (stored order form (entryOf (now source) said)) (now out) ⌝ }
-    ensures { λ r. ⌜ Put (stored order form (entryOf (now (source .entry)) said)) (now (out .entry)) r (now (out .exit)) ⌝ }
+    ensures { λ r. ⌜ Put (stored order form (entryOf (now (source .entry)) said)) (now (out .entry)) r
+        (now (out .exit)) ⌝ }
 {
     match said {
         Said::Missing => put_number(out, order, form, missing_value(form)),
@@ -217,7 +223,8 @@ fn put_fields(
     j: usize,
     n: usize,
 ) -> usize
-    requires { ⌜ AllWithin (now source) line × (n ≤ length (columns (line .tag))) × Room (restOf layout (now source) line j n) (now out) ⌝ }
+    requires { ⌜ AllWithin (now source) line × (n ≤ length (columns (line .tag)))
+        × Room (restOf layout (now source) line j n) (now out) ⌝ }
     ensures { λ r. ⌜ Put (restOf layout (now (source .entry)) line j n) (now (out .entry)) r (now (out .exit)) ⌝ }
 {
     if n <= j {
@@ -320,8 +327,10 @@ fn put_head(out: &mut [u8], layout: Layout, tag: Tag, size: u32) -> usize
 
 // The head, then the first n fields, which take `size` bytes.
 fn put_all(out: &mut [u8], layout: Layout, source: &[u8], line: Line, n: usize, size: u32) -> usize
-    requires { ⌜ Sized layout (now source) line n size × Room (laidOut layout (meaningOf (now source) line)) (now out) ⌝ }
-    ensures { λ r. ⌜ Put (laidOut layout (meaningOf (now (source .entry)) line)) (now (out .entry)) r (now (out .exit)) ⌝ }
+    requires { ⌜ Sized layout (now source) line n size
+        × Room (laidOut layout (meaningOf (now source) line)) (now out) ⌝ }
+    ensures { λ r. ⌜ Put (laidOut layout (meaningOf (now (source .entry)) line)) (now (out .entry)) r
+        (now (out .exit)) ⌝ }
 {
     let tag = line.tag;
     let k = put_head(out, layout, tag, size);
@@ -331,7 +340,8 @@ fn put_all(out: &mut [u8], layout: Layout, source: &[u8], line: Line, n: usize, 
 // A line or a record at an offset of the lent output.
 pub fn place(out: &mut [u8], at: usize, layout: Layout, source: &[u8], line: Line) -> Written
     requires { ⌜ AllWithin (now source) line ⌝ }
-    ensures { λ r. ⌜ outcome r (now (out .exit)) ≡ placedAt (laidOut layout (meaningOf (now (source .entry)) line)) (now (out .entry)) at ⌝ }
+    ensures { λ r. ⌜ outcome r (now (out .exit))
+        ≡ placedAt (laidOut layout (meaningOf (now (source .entry)) line)) (now (out .entry)) at ⌝ }
 {
     let n = present_count(line);
     let size = fields_size(layout, source, line, n);

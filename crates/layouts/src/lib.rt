@@ -24,7 +24,8 @@ pub enum Form {
     Cn,
 }
 
-// A field's type, the most that its text may hold, and whether it is required: for a number the greatest value, for P/F and
+// A field's type, the most that its text may hold, and whether it is required: for a number the greatest value, for
+// P/F and
 // a name the bytes that are kept.
 pub struct Column(pub Form, pub u32, pub bool);
 

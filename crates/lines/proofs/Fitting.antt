@@ -37,7 +37,8 @@ use Rattle.layouts.specs.Columns.{binColumns}
 use Rattle.layouts.specs.Names.{allowed}
 use Rattle.layouts.specs.Entries.{Entry, Missing, Number, Text, Meaning, entryOf, meaningOf}
 use Rattle.layouts.specs.Judging.{Judging, Says, Faulty, byFault}
-use Rattle.records.specs.Records.{siteSaid, countSaid, letterSaid, nameSaid, pcrLine, binLine, ofReading, isCount, judged, meaning}
+use Rattle.records.specs.Records.{siteSaid, countSaid, letterSaid, nameSaid, pcrLine, binLine, ofReading, isCount}
+use Rattle.records.specs.Records.{judged, meaning}
 use Rattle.records.proofs.Judges.{judged-body, none-frame, none-count}
 use Rattle.texts.specs.Laws.{entryFits, entriesFit, Fitting}
 use Rattle.texts.specs.Texts.{sitesFit}
@@ -88,12 +89,14 @@ module _ (order : Order) (b : List ℕ) (bytes : Bytes b) where
       go false e = rw e (le-leb (getD b 1 0) 255 (omega (arith, bytes 1)))
 
   sites-fit : (es : List Entry)
-      → sitesFit (entryOf b (siteSaid (getD b 0 0) (getD b 0 0)) ∷ entryOf b (siteSaid (getD b 0 0) (getD b 1 0)) ∷ es) ≡ true
+      → sitesFit (entryOf b (siteSaid (getD b 0 0) (getD b 0 0)) ∷ entryOf b (siteSaid (getD b 0 0) (getD b 1 0)) ∷
+      es) ≡ true
   unfolding sitesFit
   sites-fit es = go (eqb (getD b 0 0) 255) refl
     where
       go : (t : Bool) → eqb (getD b 0 0) 255 ≡ t
-          → sitesFit (entryOf b (siteSaid (getD b 0 0) (getD b 0 0)) ∷ entryOf b (siteSaid (getD b 0 0) (getD b 1 0)) ∷ es)
+          → sitesFit (entryOf b (siteSaid (getD b 0 0) (getD b 0 0)) ∷ entryOf b
+          (siteSaid (getD b 0 0) (getD b 1 0)) ∷ es)
           ≡ true
       go true e = rw e
       go false e = rw e
@@ -149,7 +152,8 @@ module _ (order : Order) (b : List ℕ) (bytes : Bytes b) where
           rw (e, f, drop-cons b 8 0 (leb-true 9 (length b) e))
           (either (eqb (getD b 8 0) (code "P")) (eqb (getD b 8 0) (code "F")) (rw (e, f) at h))
 
-  text-name : (l : List ℕ) → 1 ≤ length l → length l ≤ 255 → each allowed l ≡ true → entryFits (Cn, 255, false) (Text l) ≡ true
+  text-name : (l : List ℕ) → 1 ≤ length l → length l ≤ 255 → each allowed l ≡ true → entryFits (Cn, 255, false)
+      (Text l) ≡ true
   text-name [] h g e = absurd (omega arith)
   text-name (x ∷ l) h g e = rw (le-leb (length (x ∷ l)) 255 g) e
 
@@ -211,7 +215,8 @@ module _ (order : Order) (b : List ℕ) (bytes : Bytes b) where
 
   -- whatever kind of count record it is
   abbrev Means : Judged → Type 0
-  Means j = j .fault ≡ None → each entryAllowed (meaningOf b (j .line) .entries) ≡ true → Fitting (meaningOf b (j .line))
+  Means j = j .fault ≡ None → each entryAllowed (meaningOf b (j .line) .entries) ≡ true → Fitting
+      (meaningOf b (j .line))
 
   read-bin-fits : (soft : Bool) → Means (ofReading (readBin soft order b))
   read-bin-fits soft none ok = go (fitsBody bin b) refl (binValuesFit order b) refl

@@ -32,7 +32,8 @@ WrittenOnce = (cpu : ℕ) (s old : List ℕ) (at : ℕ) → Once (WritePromise c
 abbrev pub ReadOnce : Type 0
 ReadOnce = (cpu : ℕ) (line old : List ℕ) (at : ℕ) → Once (ReadPromise cpu line old at)
 
--- any record that can be written: its line, read back, has the same meaning. The site under head 255 is no part of a meaning
+-- any record that can be written: its line, read back, has the same meaning. The site under head 255 is no part of a
+-- meaning
 abbrev pub WrittenRead : Type 0
 WrittenRead = (order : Order) (s : List ℕ) (m : Meaning) → Bytes s → meaning order s ≡ Says m
     → each entryAllowed (m .entries) ≡ true → lineMeaning (textOf m) ≡ meaning order s

@@ -12,7 +12,8 @@ ghost use Rattle.texts.specs.Texts.{contentMeans, lineMeaning};
 ghost use Rattle.lines.specs.Reading.{recordMade};
 
 fn read_content(out: &mut [u8], at: usize, order: Order, s: &[u8]) -> Written
-    ensures { λ r. ⌜ outcome r (now (out .exit)) ≡ placed (recordMade order (contentMeans (now (s .entry)))) (now (out .entry)) at ⌝ }
+    ensures { λ r. ⌜ outcome r (now (out .exit))
+        ≡ placed (recordMade order (contentMeans (now (s .entry)))) (now (out .entry)) at ⌝ }
 {
     let judged = judge_content(s);
     let fault = judged.fault;
@@ -24,7 +25,8 @@ fn read_content(out: &mut [u8], at: usize, order: Order, s: &[u8]) -> Written
 }
 
 pub fn read_in(out: &mut [u8], at: usize, order: Order, line: &[u8]) -> Written
-    ensures { λ r. ⌜ outcome r (now (out .exit)) ≡ placed (recordMade order (lineMeaning (now (line .entry)))) (now (out .entry)) at ⌝ }
+    ensures { λ r. ⌜ outcome r (now (out .exit))
+        ≡ placed (recordMade order (lineMeaning (now (line .entry)))) (now (out .entry)) at ⌝ }
 {
     let end = line.len() - ending_of(line);
     read_content(out, at, order, &line[..end])

@@ -52,7 +52,8 @@ fn line_allowed(source: &[u8], line: Line) -> bool
 
 fn write_said(out: &mut [u8], at: usize, source: &[u8], line: Line) -> Written
     requires { ⌜ AllWithin (now source) line ⌝ }
-    ensures { λ r. ⌜ outcome r (now (out .exit)) ≡ placed (textMade (Says (meaningOf (now (source .entry)) line))) (now (out .entry)) at ⌝ }
+    ensures { λ r. ⌜ outcome r (now (out .exit))
+        ≡ placed (textMade (Says (meaningOf (now (source .entry)) line))) (now (out .entry)) at ⌝ }
 {
     if line_allowed(source, line) {
         place(out, at, Layout::Text, source, line)
@@ -62,7 +63,8 @@ fn write_said(out: &mut [u8], at: usize, source: &[u8], line: Line) -> Written
 }
 
 pub fn write_in(out: &mut [u8], at: usize, order: Order, record: &[u8]) -> Written
-    ensures { λ r. ⌜ outcome r (now (out .exit)) ≡ placed (textMade (meaning order (now («record» .entry)))) (now (out .entry)) at ⌝ }
+    ensures { λ r. ⌜ outcome r (now (out .exit))
+        ≡ placed (textMade (meaning order (now («record» .entry)))) (now (out .entry)) at ⌝ }
 {
     let judged = judge_record(order, record);
     let fault = judged.fault;

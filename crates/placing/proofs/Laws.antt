@@ -7,7 +7,8 @@ use native.Mathlib.Numerals.{add-one}
 use native.Mathlib.Omega.{arith}
 use borrow.Author.Tests.{le-leb, lt-leb}
 use lib.ListN.{length, getD, take, drop, set, length-append, length-take, length-drop, drop-of-length-le}
-use lib.Seq.{take-all, take-suc, drop-cons, drop-drop, drop-append-seam, take-append-seam, set-at, getD-drop, length-take-le}
+use lib.Seq.{take-all, take-suc, drop-cons, drop-drop, drop-append-seam, take-append-seam, set-at, getD-drop}
+use lib.Seq.{length-take-le}
 use Rattle.answers.specs.declared.Answer.the-variants.{OutputTooShort}
 use Rattle.numbers.specs.Numbers.{over}
 use Rattle.placing.specs.declared.Written.the-variants.{Bytes}

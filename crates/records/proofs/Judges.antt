@@ -30,7 +30,8 @@ use Rattle.layouts.specs.declared.Field.{Field}
 use Rattle.layouts.specs.declared.Fault.the-variants.{None, Found}
 use Rattle.layouts.specs.Entries.{noField, Within, AllWithin}
 use Rattle.layouts.specs.Judging.{refusing}
-use Rattle.records.specs.Records.{siteSaid, countSaid, letterSaid, nameSaid, field, pcrLine, binLine, ofReading, isCount, judged}
+use Rattle.records.specs.Records.{siteSaid, countSaid, letterSaid, nameSaid, field, pcrLine, binLine}
+use Rattle.records.specs.Records.{ofReading, isCount, judged}
 
 -- the part `&s[k..]` is all that stands from place k on
 pub part-rest : (k : ℕ) (s : List ℕ) → take (length s - k) (drop k s) ≡ drop k s
@@ -126,7 +127,8 @@ module _ (source : List ℕ) where
             seven-within (siteSaid (p .head) (p .head)) (siteSaid (p .head) (p .site)) (said.Number (p .parts))
             (countSaid (p .retest)) (countSaid (p .abort)) (countSaid (p .good)) (countSaid (p .functional))
             (within-site (p .head) (p .head)) (within-site (p .head) (p .site)) tt
-            (within-count (p .retest)) (within-count (p .abort)) (within-count (p .good)) (within-count (p .functional));
+            (within-count (p .retest)) (within-count (p .abort)) (within-count (p .good))
+            (within-count (p .functional));
       }
 
   module _ (soft : Bool) (order : Order) (bytes : getD source 9 0 < 256) where

@@ -28,8 +28,10 @@ use Rattle.layouts.specs.Layouts.{isName, entryText, laid, textOf}
 use Rattle.layouts.specs.Judging.{Judging, Says, Faulty}
 use Rattle.texts.specs.declared.Tagging.{Tagging}
 use Rattle.texts.specs.declared.Tagging.the-variants.{Known, Other}
-use Rattle.texts.specs.Pieces.{onto, split, first, rest, isNumber, numberFits, numberIn, letterFits, valueFits, valueIn, pieceFits, entryIn, fieldsFit, entriesIn}
-use Rattle.texts.specs.Texts.{isBreak, ending, content, unbroken, tagOf, sitesFit, notALine, fieldsMean, taggedMeans, contentMeans, lineMeaning}
+use Rattle.texts.specs.Pieces.{onto, split, first, rest, isNumber, numberFits, numberIn, letterFits, valueFits}
+use Rattle.texts.specs.Pieces.{valueIn, pieceFits, entryIn, fieldsFit, entriesIn}
+use Rattle.texts.specs.Texts.{isBreak, ending, content, unbroken, tagOf, sitesFit, notALine, fieldsMean}
+use Rattle.texts.specs.Texts.{taggedMeans, contentMeans, lineMeaning}
 use Rattle.texts.specs.Laws.{entryFits, entriesFit, Fitting, CanonicalRead, ReadFits, ReadAgain}
 use Rattle.texts.proofs.Whole.{ending-feed, mean-said, content-tagged}
 
@@ -105,7 +107,11 @@ module _ (c : Column) (ok : sane c ≡ true) where
   most =
       let a = leb (c .1) 4_294_967_295 && leb 1 (c .1) in
       let b = isNumber (c .0) || (isName (c .0) || leb (c .1) 1) in
-      omega (arith, leb-true (c .1) 4_294_967_295 (both-left (leb (c .1) 4_294_967_295) (leb 1 (c .1)) (both-left a b ok)))
+      omega (
+        arith,
+        leb-true (c .1) 4_294_967_295 (both-left (leb (c .1) 4_294_967_295) (leb 1 (c .1))
+            (both-left a b ok)),
+      )
 
   some : 1 ≤ c .1
   some =
@@ -172,12 +178,14 @@ pieces-read [] (x ∷ es) ok e = true-false e
 pieces-read (c ∷ cs) [] ok e = true-false e
 pieces-read (c ∷ cs) (x ∷ es) ok e =
     let r = entry-reads c (both-left (sane c) (each sane cs) ok) x (both-left (entryFits c x) (entriesFit cs es) e) in
-    let ih = pieces-read cs es (both-right (sane c) (each sane cs) ok) (both-right (entryFits c x) (entriesFit cs es) e) in (
+    let ih = pieces-read cs es (both-right (sane c) (each sane cs) ok)
+    (both-right (entryFits c x) (entriesFit cs es) e) in (
       rw (first-kept x (present es), rest-kept x (present es), r .1) (ih .0),
       rw (first-kept x (present es), rest-kept x (present es), r .2, ih .1),
     )
 
-plain-kept : (e : Entry) (es : List Entry) → each plain (entryText e) ≡ true → each (each plain) (map entryText es) ≡ true
+plain-kept : (e : Entry) (es : List Entry) → each plain (entryText e) ≡ true → each (each plain) (map entryText es)
+    ≡ true
     → each (each plain) (map entryText (kept e es)) ≡ true
 plain-kept Missing [] p ps = refl
 plain-kept Missing (x ∷ es) p ps = ps
@@ -223,7 +231,8 @@ split-joined p [] e f = split-last p e
 split-joined p (q ∷ qs) e f =
     split-more p (joined q qs) e
     ∙ ap (λ (l : List (List ℕ)). p ∷ l)
-    (split-joined q qs (both-left (each plain q) (each (each plain) qs) f) (both-right (each plain q) (each (each plain) qs) f))
+    (split-joined q qs (both-left (each plain q) (each (each plain) qs) f)
+    (both-right (each plain q) (each (each plain) qs) f))
 
 unbroken-plain : (s : List ℕ) → each plain s ≡ true → unbroken s ≡ true
 unbroken-plain s e =
@@ -237,7 +246,8 @@ unbroken-joined p (q ∷ qs) e f =
     rw (
       each-append ℕ (λ (b : ℕ). not (isBreak b)) p (separator ∷ joined q qs),
       unbroken-plain p e,
-      unbroken-joined q qs (both-left (each plain q) (each (each plain) qs) f) (both-right (each plain q) (each (each plain) qs) f),
+      unbroken-joined q qs (both-left (each plain q) (each (each plain) qs) f)
+          (both-right (each plain q) (each (each plain) qs) f),
     )
 
 -- fields laid out as text are the pieces joined, and LF
@@ -274,7 +284,8 @@ content-feed s least whole =
     let kept-byte : getD s (n - 1) 0 ≡ carriageReturn → ⊥ =
     λ (i : getD s (n - 1) 0 ≡ carriageReturn). true-false {A = ⊥} (rw i at other) in
     let no-return : getD (s ++ lineFeed ∷ []) (length (s ++ lineFeed ∷ []) - 2) 0 ≡ carriageReturn → ⊥ =
-    λ (i : getD (s ++ lineFeed ∷ []) (length (s ++ lineFeed ∷ []) - 2) 0 ≡ carriageReturn). kept-byte (sym before ∙ i) in
+    λ (i : getD (s ++ lineFeed ∷ []) (length (s ++ lineFeed ∷ []) - 2) 0 ≡ carriageReturn). kept-byte
+    (sym before ∙ i) in
     rw (ending-feed (s ++ lineFeed ∷ []) no-return feed, size, last) (take-at s (lineFeed ∷ []) n refl)
 
 kept-least : (e : Entry) (es : List Entry) → length es ≤ length (kept e es)
@@ -301,9 +312,11 @@ third : (a b c : Column) (cs : List Column) (es : List Entry) → c .2 ≡ true 
     → 1 ≤ length (present es)
 third a b c cs [] r e = true-false e
 third a b c cs (x ∷ []) r e = true-false (both-right (entryFits a x) false e)
-third a b c cs (x ∷ y ∷ []) r e = true-false (both-right (entryFits b y) false (both-right (entryFits a x) (entryFits b y && false) e))
+third a b c cs (x ∷ y ∷ []) r e = true-false (both-right (entryFits b y) false
+    (both-right (entryFits a x) (entryFits b y && false) e))
 third a b c cs (x ∷ y ∷ z ∷ es) r e =
-    let f = both-right (entryFits b y) (entriesFit (c ∷ cs) (z ∷ es)) (both-right (entryFits a x) (entriesFit (b ∷ c ∷ cs) (y ∷ z ∷ es)) e) in
+    let f = both-right (entryFits b y) (entriesFit (c ∷ cs) (z ∷ es))
+    (both-right (entryFits a x) (entriesFit (b ∷ c ∷ cs) (y ∷ z ∷ es)) e) in
     let g = go z (both-left (entryFits c z) (entriesFit cs es) f) in
     omega (arith, g, kept-least y (present (z ∷ es)), kept-least x (present (y ∷ z ∷ es)))
   where
@@ -432,7 +445,8 @@ says-same m m′ e = cc
 fields-said : (tag : Tag) (ps : List (List ℕ)) (m : Meaning) → fieldsMean tag ps ≡ Says m → Fitting m
 fields-said tag ps m e = go (fieldsFit (columns tag) ps) refl (sitesFit (entriesIn (columns tag) ps)) refl
   where
-    go : (t : Bool) → fieldsFit (columns tag) ps ≡ t → (u : Bool) → sitesFit (entriesIn (columns tag) ps) ≡ u → Fitting m
+    go : (t : Bool) → fieldsFit (columns tag) ps ≡ t → (u : Bool) → sitesFit (entriesIn (columns tag) ps) ≡ u →
+        Fitting m
     go false f u g = not-said m (rw f at e)
     go true f false g = not-said m (rw (f, g) at e)
     go true f true g =

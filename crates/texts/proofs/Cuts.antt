@@ -14,7 +14,8 @@ use Rattle.placing.specs.Placed.{part}
 use Rattle.layouts.specs.declared.Column.{Column}
 use Rattle.layouts.specs.Columns.{separator, noColumn}
 use Rattle.layouts.specs.Entries.{Entry}
-use Rattle.texts.specs.Pieces.{onto, split, first, rest, pieceFits, entryIn, isNone, fieldsFit, entriesIn, left, Ends, Next}
+use Rattle.texts.specs.Pieces.{onto, split, first, rest, pieceFits, entryIn, isNone, fieldsFit, entriesIn}
+use Rattle.texts.specs.Pieces.{left, Ends, Next}
 
 -- ---- bytes in front of a piece
 
@@ -56,7 +57,8 @@ module _ (s : List ℕ) (from i : ℕ) where
       rw (lt-ltb i (length s) g, add-one i)
       (rw (drop-cons s i 0 g, eq-eqb (getD s i 0) separator is, before-none) at p)
 
-  pub passed-all : length s ≤ i → Passed → split (drop from s) ≡ part from (i - from) s ∷ left (ltb i (length s)) (i + 1) s
+  pub passed-all : length s ≤ i → Passed → split (drop from s) ≡ part from (i - from) s ∷ left (ltb i (length s))
+      (i + 1) s
   unfolding split
   passed-all h p = rw (le-ltb i (length s) h) (rw (drop-of-length-le s {i = i} h, before-none) at p)
 

@@ -22,7 +22,8 @@ use Rattle.layouts.specs.declared.Said.the-variants as said
 use Rattle.layouts.specs.Columns.{columns}
 use Rattle.layouts.specs.Entries.{Entry, Missing, Text}
 use Rattle.layouts.specs.declared.Column.{Column}
-use Rattle.texts.specs.Pieces.{isNumber, numberFits, numberIn, letterFits, valueFits, valueIn, pieceFits, entryIn, numberSaid, Holds, short}
+use Rattle.texts.specs.Pieces.{isNumber, numberFits, numberIn, letterFits, valueFits, valueIn, pieceFits}
+use Rattle.texts.specs.Pieces.{entryIn, numberSaid, Holds, short}
 
 -- ---- P/F
 

@@ -22,7 +22,8 @@ use Rattle.layouts.specs.Judging.{refusing, Judging, Says}
 use Rattle.layouts.proofs.Laid.{said-at}
 use Rattle.texts.specs.Pieces.{fieldsFit, entriesIn}
 use Rattle.texts.specs.declared.Tagging.the-variants.{Known, Other}
-use Rattle.texts.specs.Texts.{isBreak, back, ending, starts, unbroken, tagOf, none, sitesFit, notALine, fieldsMean, taggedMeans, contentMeans, Taken}
+use Rattle.texts.specs.Texts.{isBreak, back, ending, starts, unbroken, tagOf, none, sitesFit, notALine}
+use Rattle.texts.specs.Texts.{fieldsMean, taggedMeans, contentMeans, Taken}
 
 -- ---- its ending
 
@@ -110,7 +111,8 @@ module _ (a b c d : ℕ) where
 -- a text that begins with four bytes has them
 pub starts-four : (t s : List ℕ) → starts t s ≡ true → length t ≤ length s
 starts-four [] s e = omega arith
-starts-four (x ∷ t) [] e = let never : _≡_ {A = Bool} false true = e in let no : _≡_ {A = ℕ} 0 1 = cc in absurd (omega arith)
+starts-four (x ∷ t) [] e = let never : _≡_ {A = Bool} false true = e in let no : _≡_ {A = ℕ} 0 1 = cc in absurd
+    (omega arith)
 starts-four (x ∷ t) (b ∷ s) e = omega (arith, starts-four t s (both-right (eqb b x) (starts t s) e))
 
 module _ (s : List ℕ) where

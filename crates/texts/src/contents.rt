@@ -18,7 +18,8 @@ ghost use mathlib.Core.List.{[], _∷_};
 ghost use Prim.Native.Nat.{_-_, _≤_};
 ghost use lib.ListN.{length, drop};
 ghost use Rattle.texts.specs.Pieces.{split};
-ghost use Rattle.texts.specs.Texts.{isBreak, ending, unbroken, starts, tagOf, fieldsMean, contentMeans, Taken, Sited};
+ghost use Rattle.texts.specs.Texts.{isBreak, ending, unbroken, starts, tagOf, fieldsMean, contentMeans, Taken};
+ghost use Rattle.texts.specs.Texts.{Sited};
 
 fn is_break(b: u8) -> bool
     ensures { λ r. ⌜ r ≡ isBreak b ⌝ }

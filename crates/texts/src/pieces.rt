@@ -20,7 +20,8 @@ ghost use lib.ListN.{length, drop};
 ghost use Rattle.digits.specs.Digits.{numeral};
 ghost use Rattle.placing.specs.Placed.{part};
 ghost use Rattle.layouts.specs.Columns.{columns};
-ghost use Rattle.texts.specs.Pieces.{split, isNumber, numberFits, letterFits, valueFits, pieceFits, entryIn, fieldsFit};
+ghost use Rattle.texts.specs.Pieces.{split, isNumber, numberFits, letterFits, valueFits, pieceFits, entryIn};
+ghost use Rattle.texts.specs.Pieces.{fieldsFit};
 ghost use Rattle.texts.specs.Pieces.{Ends, Next, numberSaid, Holds, short, Filled};
 
 fn is_number(form: Form) -> bool
@@ -173,7 +174,8 @@ fn shorter(a: usize, b: usize) -> usize
 
 // What a piece that fits says; of text, no more than is kept.
 fn said_in(column: Column, text: &[u8], at: usize, len: usize) -> Said
-    requires { ⌜ (at + len ≤ length (now text)) × (short column ≡ true) × (pieceFits column (part at len (now text)) ≡ true) ⌝ }
+    requires { ⌜ (at + len ≤ length (now text)) × (short column ≡ true)
+        × (pieceFits column (part at len (now text)) ≡ true) ⌝ }
     ensures { λ r. ⌜ Holds (now (text .entry)) r (entryIn column (part at len (now (text .entry)))) ⌝ }
 {
     if len == 0 {

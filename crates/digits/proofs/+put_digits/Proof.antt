@@ -1,4 +1,5 @@
--- `digits::put_digits` meets its contract, by recursion on the quotient: the last digit goes behind those of the quotient.
+-- `digits::put_digits` meets its contract, by recursion on the quotient: the last digit goes behind those of the
+-- quotient.
 -- Assumes nothing.
 use mathlib.Core.List.{[]}
 use mathlib.Core.Path.{refl}
@@ -68,7 +69,11 @@ put-digits-returns t c =
     let small = c .if1 .taken in
     let old = now (c .before .before .args .out) in
     rw (digits-one n small)
-    record { count = refl; laid = put-end [] old (digit n) 0 refl (omega (arith, c .before .before .pre .1, length-one n small)) }
+    record {
+      count = refl;
+      laid = put-end [] old (digit n) 0 refl
+          (omega (arith, c .before .before .pre .1, length-one n small));
+    }
 
 put-digits-put-digits-requires : (t : ℕ) → put-digits-lts.Need-put-digits-requires (
   put-digits-below t,
@@ -97,7 +102,14 @@ put-digits-slice-write-out-2 : (t : ℕ) → put-digits-lts.Need-slice-write-out
 put-digits-slice-write-out-2 t c =
     let p = c .before .before .put-digits in
     let s = c .before .before .before .before .before .before in
-    omega (arith, p .ensures .count, p .kept .0, s .pre .1, length-more (s .args .n) (c .before .before .before .before .if1 .left))
+    omega (
+      arith,
+      p .ensures .count,
+      p .kept .0,
+      s .pre .1,
+      length-more (s .args .n)
+          (c .before .before .before .before .if1 .left),
+    )
 
 put-digits-add-result : (t : ℕ) → put-digits-lts.Need-add-result (
   put-digits-below t,
@@ -106,7 +118,14 @@ put-digits-add-result : (t : ℕ) → put-digits-lts.Need-add-result (
 put-digits-add-result t c =
     let p = c .before .before .put-digits in
     let s = c .before .before .before .before .before .before in
-    omega (arith, p .ensures .count, p .kept .0, s .pre .1, length-more (s .args .n) (c .before .before .before .before .if1 .left))
+    omega (
+      arith,
+      p .ensures .count,
+      p .kept .0,
+      s .pre .1,
+      length-more (s .args .n)
+          (c .before .before .before .before .if1 .left),
+    )
 
 put-digits-same-length-2 : (t : ℕ) → put-digits-lts.Need-same-length-2 (
   put-digits-below t,
@@ -127,7 +146,8 @@ put-digits-returns-2 t c =
       count = omega (arith, l, p .ensures .count);
       laid =
           rw (p .ensures .laid, p .ensures .count, digits-more n (c .before .before .before .before .if1 .left))
-          (put-end (digits (n / 10)) (now (s .args .out)) (digit (n % 10)) (length (digits (n / 10))) refl (omega (arith, l, s .pre .1)));
+          (put-end (digits (n / 10)) (now (s .args .out)) (digit (n % 10)) (length (digits (n / 10))) refl
+          (omega (arith, l, s .pre .1)));
     }
 
 pub +put-digits-spec : {M : Type 1} → statement M

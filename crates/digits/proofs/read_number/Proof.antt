@@ -1,4 +1,5 @@
--- `digits::read_number` meets its contract: what is left of the text says what the whole said, behind the digits passed.
+-- `digits::read_number` meets its contract: what is left of the text says what the whole said, behind the digits
+-- passed.
 -- Assumes nothing.
 use mathlib.Core.Path.{_≡_, refl, sym, ap, _∙_}
 use mathlib.Core.Bool.{true}
@@ -12,13 +13,15 @@ use Rattle.digits.specs.declared.Numeral.the-variants.{Value}
 use Rattle.words.specs.Each.{each}
 use Rattle.words.proofs.Each.{each-ends, each-fails, each-on}
 use Rattle.digits.specs.Digits.{isDigit, decimal, decimalFrom}
-use Rattle.digits.proofs.Laws.{numeral-empty, numeral-long, numeral-no, numeral-value, decimal-on, decimal-ends, digit-least, digit-most, ceiling, ceiling-more, ceiling-most}
+use Rattle.digits.proofs.Laws.{numeral-empty, numeral-long, numeral-no, numeral-value, decimal-on}
+use Rattle.digits.proofs.Laws.{decimal-ends, digit-least, digit-most, ceiling, ceiling-more, ceiling-most}
 use Rattle.digits.proofs.read_number.Statement.{statement}
 use Rattle.digits.proofs.read_number.Tie as tie
 
 abbrev Inv-loop : tie.InvT-loop
 Inv-loop s n₀ i₀ n i =
-    (i ≤ length s) × (n < ceiling i) × (each isDigit s ≡ each isDigit (drop i s)) × (decimal s ≡ decimalFrom n (drop i s))
+    (i ≤ length s) × (n < ceiling i) × (each isDigit s ≡ each isDigit (drop i s)) ×
+    (decimal s ≡ decimalFrom n (drop i s))
 
 abbrev μ-loop : tie.MeasureT-loop
 μ-loop s n₀ i₀ n i = length s - i
@@ -38,7 +41,8 @@ returns-3 c =
     let some = l .before .before in
     let s = now (some .before .before .args .s) in
     numeral-no s (some .if1 .left) (l .before .if2 .left)
-    (l .loop .inv .2 ∙ each-fails ℕ isDigit s (l .loop .i) 0 (omega arith) (sym (c .before .is-digit .ensures) ∙ not-true _ (c .if3 .taken)))
+    (l .loop .inv .2 ∙ each-fails ℕ isDigit s (l .loop .i) 0 (omega arith)
+    (sym (c .before .is-digit .ensures) ∙ not-true _ (c .if3 .taken)))
 
 mul-n : tie.Need-mul-n Inv-loop μ-loop
 mul-n c =
@@ -86,7 +90,8 @@ returns-4 c =
     let s = now (some .before .before .args .s) in
     let i = l .loop .i in
     ap Value (sym (l .loop .inv .3 ∙ decimal-ends s i (l .loop .n) (omega arith)))
-    ∙ numeral-value s (some .if1 .left) (l .before .if2 .left) (l .loop .inv .2 ∙ each-ends ℕ isDigit s i 0 (omega arith))
+    ∙ numeral-value s (some .if1 .left) (l .before .if2 .left)
+    (l .loop .inv .2 ∙ each-ends ℕ isDigit s i 0 (omega arith))
 
 -- ---- found by search
 

@@ -7,7 +7,8 @@ use Rattle.lines.proofs.read_line.Tie as tie
 
 returns : tie.Need-returns
 returns c =
-    rw (sym (c .before .before .before .before .before .before .before .order-of .ensures) ∙ c .before .before .before .before .before .order .given .1) (c .before .before .read-in .ensures)
+    rw (sym (c .before .before .before .before .before .before .before .order-of .ensures) ∙
+    c .before .before .before .before .before .order .given .1) (c .before .before .read-in .ensures)
 
 returns-2 : tie.Need-returns-2
 returns-2 c = rw (sym (c .before .before .order-of .ensures) ∙ c .enum-told .given .1)

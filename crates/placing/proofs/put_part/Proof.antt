@@ -27,7 +27,8 @@ loop-again c =
       omega arith,
       simp length-set (l .loop .inv .1),
       rw (l .loop .inv .2)
-          (part-more (a .at) (a .len) (now (a .source)) (s .pre .0) (l .loop .i) (now (a .out)) (omega arith) (s .pre .1)),
+          (part-more (a .at) (a .len) (now (a .source)) (s .pre .0) (l .loop .i) (now (a .out)) (omega arith)
+          (s .pre .1)),
     )
 
 returns : tie.Need-returns Inv-loop μ-loop

@@ -15,17 +15,20 @@ use Rattle.records.proofs.Judges.{part-rest, judged-frame, judged-kind,
 use Rattle.records.proofs.judge_record.Statement.{statement}
 use Rattle.records.proofs.judge_record.Tie as tie
 
-is : (c : tie.Else1) → isRecord (c .before .before .before .args .order) (now (c .before .before .before .args .«record»)) ≡ true
+is : (c : tie.Else1) → isRecord (c .before .before .before .args .order)
+    (now (c .before .before .before .args .«record»)) ≡ true
 is c = sym (c .before .is-record .ensures) ∙ not-false (c .before .is-record .result) (c .if1 .left)
 
 whole : (c : tie.Else1) → 4 ≤ length (now (c .before .before .before .args .«record»))
-whole c = record-header (c .before .before .before .args .order) (now (c .before .before .before .args .«record»)) (is c)
+whole c = record-header (c .before .before .before .args .order) (now (c .before .before .before .args .«record»))
+    (is c)
 
 returns : tie.Need-returns
 returns c =
     let a = c .before .before .before .before .args in
     let told = c .before .before .is-record in
-    c .refused-line .ensures ∙ judged-frame (a .order) (now (a .«record»)) (sym (told .ensures) ∙ not-true (told .result) (c .before .if1 .taken))
+    c .refused-line .ensures ∙ judged-frame (a .order) (now (a .«record»))
+    (sym (told .ensures) ∙ not-true (told .result) (c .before .if1 .taken))
 
 shared-slice-read-kind-of : tie.Need-shared-slice-read-kind-of
 shared-slice-read-kind-of c = omega (arith, whole (c .before))
@@ -37,8 +40,10 @@ returns-2 : tie.Need-returns-2
 returns-2 c =
     let a = c .before .before .before .before .before .before .before .before .before .args in
     let told = c .before .before .is-count in
-    let count = rw (c .before .before .before .kind-of .ensures) at (sym (told .ensures) ∙ not-true (told .result) (c .before .if2 .taken)) in
-    c .refused-line2 .ensures ∙ judged-kind (a .order) (now (a .«record»)) (is (c .before .before .before .before .before .before)) count
+    let count = rw (c .before .before .before .kind-of .ensures)
+    at (sym (told .ensures) ∙ not-true (told .result) (c .before .if2 .taken)) in
+    c .refused-line2 .ensures ∙ judged-kind (a .order) (now (a .«record»))
+    (is (c .before .before .before .before .before .before)) count
 
 sub-read-body : tie.Need-sub-read-body
 sub-read-body c = whole (c .before .before .before .before .before)
@@ -51,9 +56,12 @@ returns-3 c =
     let a = c .before .before .before .before .before .before .before .before .before .before .before .args in
     let s = now (a .«record») in
     let told = c .before .before .before .before .is-count in
-    let count = rw (c .before .before .before .before .before .kind-of .ensures) at (sym (told .ensures) ∙ not-false (told .result) (c .before .before .before .if2 .left)) in
-    let read = rw (part-rest 4 s, c .before .before .before .before .before .kind-of .ensures) at (c .before .read-body .ensures) in
-    c .of-reading .ensures ∙ ap ofReading read ∙ judged-body (a .order) s (is (c .before .before .before .before .before .before .before .before)) count
+    let count = rw (c .before .before .before .before .before .kind-of .ensures)
+    at (sym (told .ensures) ∙ not-false (told .result) (c .before .before .before .if2 .left)) in
+    let read = rw (part-rest 4 s, c .before .before .before .before .before .kind-of .ensures)
+    at (c .before .read-body .ensures) in
+    c .of-reading .ensures ∙ ap ofReading read ∙ judged-body (a .order) s
+    (is (c .before .before .before .before .before .before .before .before)) count
 
 -- ---- found by search
 

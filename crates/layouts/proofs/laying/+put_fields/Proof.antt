@@ -50,9 +50,11 @@ put-fields-put-nth-requires t c κs =
     let s = c .before .before .before .before in
     let a = s .args in
     let src = now (a .source) in
-    let on = rest-on src (a .line) (s .pre .1 .0 .seven) (a .layout) (a .j) (a .n) (omega (arith, c .before .if1 .left)) (s .pre .1 .1) in (
+    let on = rest-on src (a .line) (s .pre .1 .0 .seven) (a .layout) (a .j) (a .n)
+    (omega (arith, c .before .if1 .left)) (s .pre .1 .1) in (
       record { there = s .pre .1 .0; before = omega (arith, c .before .if1 .left); few = s .pre .1 .1 },
-      first (nthBytes (a .layout) src (a .line) (a .j) (a .n)) (restOf (a .layout) src (a .line) (a .j + 1) (a .n)) (now (a .out)) (rw on at (s .pre .1 .2)),
+      first (nthBytes (a .layout) src (a .line) (a .j) (a .n)) (restOf (a .layout) src (a .line) (a .j + 1) (a .n))
+          (now (a .out)) (rw on at (s .pre .1 .2)),
     )
 
 put-fields-sub-put-fields : (t : ℕ) → put-fields-lts.Need-sub-put-fields (
@@ -66,8 +68,10 @@ put-fields-sub-put-fields t c =
     let a = s .args in
     let src = now (a .source) in
     let p = c .before .before .put-nth in
-    let on = rest-on src (a .line) (s .pre .1 .0 .seven) (a .layout) (a .j) (a .n) (omega (arith, c .before .before .before .before .if1 .left)) (s .pre .1 .1) in
-    inside (nthBytes (a .layout) src (a .line) (a .j) (a .n)) (restOf (a .layout) src (a .line) (a .j + 1) (a .n)) (now (a .out)) (rw on at (s .pre .1 .2)) (p .last .0) (p .result) (p .ensures)
+    let on = rest-on src (a .line) (s .pre .1 .0 .seven) (a .layout) (a .j) (a .n)
+    (omega (arith, c .before .before .before .before .if1 .left)) (s .pre .1 .1) in
+    inside (nthBytes (a .layout) src (a .line) (a .j) (a .n)) (restOf (a .layout) src (a .line) (a .j + 1) (a .n))
+    (now (a .out)) (rw on at (s .pre .1 .2)) (p .last .0) (p .result) (p .ensures)
 
 put-fields-part-put-fields-start : (t : ℕ) → put-fields-lts.Need-part-put-fields-start (
   put-nth-reads.Asked,
@@ -106,12 +110,15 @@ put-fields-put-fields-requires t c κs =
     let a = s .args in
     let src = now (a .source) in
     let p = c .before .before .before .put-nth in
-    let on = rest-on src (a .line) (s .pre .1 .0 .seven) (a .layout) (a .j) (a .n) (omega (arith, c .before .before .before .before .before .if1 .left)) (s .pre .1 .1) in (
+    let on = rest-on src (a .line) (s .pre .1 .0 .seven) (a .layout) (a .j) (a .n)
+    (omega (arith, c .before .before .before .before .before .if1 .left)) (s .pre .1 .1) in (
       omega (arith, s .pre .0, c .before .before .before .before .before .if1 .left),
       (
         s .pre .1 .0,
         s .pre .1 .1,
-        behind (nthBytes (a .layout) src (a .line) (a .j) (a .n)) (restOf (a .layout) src (a .line) (a .j + 1) (a .n)) (now (a .out)) (rw on at (s .pre .1 .2)) (p .last .0) (p .result) (p .ensures),
+        behind (nthBytes (a .layout) src (a .line) (a .j) (a .n))
+            (restOf (a .layout) src (a .line) (a .j + 1) (a .n)) (now (a .out)) (rw on at (s .pre .1 .2))
+            (p .last .0) (p .result) (p .ensures),
       ),
     )
 
@@ -127,9 +134,12 @@ put-fields-returns-2 t c =
     let src = now (a .source) in
     let p = c .before .before .before .before .before .before .put-nth in
     let q = c .before .before .put-fields in
-    let on = rest-on src (a .line) (s .pre .1 .0 .seven) (a .layout) (a .j) (a .n) (omega (arith, c .before .before .before .before .before .before .before .before .if1 .left)) (s .pre .1 .1) in
+    let on = rest-on src (a .line) (s .pre .1 .0 .seven) (a .layout) (a .j) (a .n)
+    (omega (arith, c .before .before .before .before .before .before .before .before .if1 .left)) (s .pre .1 .1) in
     rw on
-    (both (nthBytes (a .layout) src (a .line) (a .j) (a .n)) (restOf (a .layout) src (a .line) (a .j + 1) (a .n)) (now (a .out)) (rw on at (s .pre .1 .2)) (p .last .0) (p .result) (p .ensures) (q .last .0) (q .result) (q .ensures))
+    (both (nthBytes (a .layout) src (a .line) (a .j) (a .n)) (restOf (a .layout) src (a .line) (a .j + 1) (a .n))
+    (now (a .out)) (rw on at (s .pre .1 .2)) (p .last .0) (p .result) (p .ensures) (q .last .0) (q .result)
+    (q .ensures))
 
 put-fields-add-result : (t : ℕ) → put-fields-lts.Need-add-result (
   put-nth-reads.Asked,

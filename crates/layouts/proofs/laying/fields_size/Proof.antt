@@ -13,7 +13,8 @@ use Rattle.layouts.proofs.laying.fields_size.Tie as tie
 
 abbrev Inv-loop : tie.InvT-loop
 Inv-loop layout source line n size₀ j₀ size j =
-    (j ≤ n) × (size ≤ 256 * j) × (size + length (restOf layout source line j n) ≡ length (restOf layout source line 0 n))
+    (j ≤ n) × (size ≤ 256 * j) × (size + length (restOf layout source line j n) ≡ length
+    (restOf layout source line 0 n))
 
 abbrev μ-loop : tie.MeasureT-loop
 μ-loop layout source line n size₀ j₀ size j = n - j
@@ -36,7 +37,8 @@ loop-again c =
     let l = c .before .before in
     let s = l .before .before in
     let a = s .args in
-    let on = rest-length (now (a .source)) (a .line) (s .pre .0 .seven) (a .layout) (l .loop .j) (a .n) (omega arith) (s .pre .1) in
+    let on = rest-length (now (a .source)) (a .line) (s .pre .0 .seven) (a .layout) (l .loop .j) (a .n)
+    (omega arith) (s .pre .1) in
     (omega arith, omega (arith, c .nth-size .ensures .1), omega (arith, c .nth-size .ensures .0, on, l .loop .inv .2))
 
 returns : tie.Need-returns Inv-loop μ-loop
@@ -44,7 +46,8 @@ returns c =
     let l = c .before in
     let s = l .before .before in
     let a = s .args in
-    let none = ap length (rest-ends (now (a .source)) (a .line) (s .pre .0 .seven) (a .layout) (l .loop .j) (a .n) (omega arith)) in
+    let none = ap length (rest-ends (now (a .source)) (a .line) (s .pre .0 .seven) (a .layout) (l .loop .j) (a .n)
+    (omega arith)) in
     (omega (arith, none, l .loop .inv .2), omega arith)
 
 -- ---- found by search

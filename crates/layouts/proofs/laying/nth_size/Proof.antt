@@ -31,13 +31,19 @@ unfolding nthBytes
 returns c =
     let a = c .before .before .before .before .before .before .args in
     let is = c .before .before .before .before .said-at in
-    rw (c .before .enum-told .given .1, ← is .ensures)
-    (marked-size (entryOf (now (a .source)) (is .result)) (eqb (a .j + 1) (a .n)) (c .entry-size .ensures .0), omega arith)
+    rw (c .before .enum-told .given .1, ← is .ensures) (
+      marked-size (entryOf (now (a .source)) (is .result)) (eqb (a .j + 1) (a .n)) (c .entry-size .ensures .0),
+      omega arith,
+    )
 
 returns-2 : tie.Need-returns-2
 unfolding nthBytes
 returns-2 c =
-    rw (c .before .before .layout .given .1, ← c .before .before .before .before .before .said-at .ensures, ← c .before .before .before .before .column-at .ensures) (c .stored-size .ensures)
+    rw (
+      c .before .before .layout .given .1,
+      ← c .before .before .before .before .before .said-at .ensures,
+      ← c .before .before .before .before .column-at .ensures,
+    ) (c .stored-size .ensures)
 
 -- ---- found by search
 

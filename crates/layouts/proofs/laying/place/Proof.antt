@@ -13,14 +13,23 @@ use Rattle.layouts.proofs.Laid.{laid-size, most-columns}
 use Rattle.layouts.proofs.laying.place.Statement.{statement}
 use Rattle.layouts.proofs.laying.place.Tie as tie
 
-sized : (c : tie.After-fields-size) → Sized (c .before .before .before .before .args .layout) (now (c .before .before .before .before .args .source)) (c .before .before .before .before .args .line) (c .before .present-count .result) (c .fields-size .result)
-sized c = record { there = c .before .before .before .before .pre; stops = c .before .present-count .ensures; is = c .fields-size .ensures .0 }
+sized : (c : tie.After-fields-size) → Sized (c .before .before .before .before .args .layout)
+    (now (c .before .before .before .before .args .source)) (c .before .before .before .before .args .line)
+    (c .before .present-count .result) (c .fields-size .result)
+sized c = record {
+  there = c .before .before .before .before .pre;
+  stops = c .before .present-count .ensures;
+  is = c .fields-size .ensures .0;
+}
 
 total : (c : tie.After-fields-size)
-    → length (laidOut (c .before .before .before .before .args .layout) (meaningOf (now (c .before .before .before .before .args .source)) (c .before .before .before .before .args .line))) ≡ c .fields-size .result + 4
+    → length (laidOut (c .before .before .before .before .args .layout)
+    (meaningOf (now (c .before .before .before .before .args .source))
+    (c .before .before .before .before .args .line))) ≡ c .fields-size .result + 4
 total c =
     let a = c .before .before .before .before .args in
-    laid-size (a .layout) (now (a .source)) (a .line) (c .before .present-count .result) (c .fields-size .result) (sized c)
+    laid-size (a .layout) (now (a .source)) (a .line) (c .before .present-count .result) (c .fields-size .result)
+    (sized c)
 
 small : (c : tie.After-fields-size) → c .fields-size .result ≤ 1792
 small c =
@@ -38,7 +47,8 @@ add-if2 c = record { fits = omega (arith, small (c .before)) }
 returns-2 : tie.Need-returns-2
 returns-2 c =
     let a = c .before .before .before .before .before .before .args in
-    place-short (laidOut (a .layout) (meaningOf (now (a .source)) (a .line))) (now (a .out)) (a .at) (omega (arith, total (c .before .before)))
+    place-short (laidOut (a .layout) (meaningOf (now (a .source)) (a .line))) (now (a .out)) (a .at)
+    (omega (arith, total (c .before .before)))
 
 cast-put-all : tie.Need-cast-put-all
 cast-put-all c = record { fits = omega (arith, small (c .before .before .before)) }
@@ -47,14 +57,16 @@ put-all-requires : tie.Need-put-all-requires
 put-all-requires c κs =
     let a = c .before .before .before .before .before .before .before .args in (
       sized (c .before .before .before),
-      place-room (laidOut (a .layout) (meaningOf (now (a .source)) (a .line))) (now (a .out)) (a .at) (omega (arith, total (c .before .before .before))),
+      place-room (laidOut (a .layout) (meaningOf (now (a .source)) (a .line))) (now (a .out)) (a .at)
+          (omega (arith, total (c .before .before .before))),
     )
 
 returns-3 : tie.Need-returns-3
 returns-3 c =
     let a = c .before .before .before .before .before .before .before .before .before .before .args in
     let q = c .before .before .put-all in
-    place-done (laidOut (a .layout) (meaningOf (now (a .source)) (a .line))) (now (a .out)) (a .at) (omega (arith, total (c .before .before .before .before .before .before)))
+    place-done (laidOut (a .layout) (meaningOf (now (a .source)) (a .line))) (now (a .out)) (a .at)
+    (omega (arith, total (c .before .before .before .before .before .before)))
     (q .result) (q .last .0) (q .ensures)
 
 -- ---- found by search

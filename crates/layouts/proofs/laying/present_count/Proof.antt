@@ -16,7 +16,8 @@ use Rattle.layouts.proofs.laying.present_count.Tie as tie
 
 abbrev Inv-loop : tie.InvT-loop
 Inv-loop line count n₀ j₀ n j =
-    (j ≤ count) × (n ≤ j) × ((source : List ℕ) → present (take j (entriesOf source line)) ≡ take n (entriesOf source line))
+    (j ≤ count) × (n ≤ j) × ((source : List ℕ) → present (take j (entriesOf source line)) ≡ take n
+    (entriesOf source line))
 
 abbrev μ-loop : tie.MeasureT-loop
 μ-loop line count n₀ j₀ n j = count - j
@@ -41,7 +42,8 @@ loop-again c =
       omega arith,
       omega (arith, w .1),
       λ source. rw (w .1)
-          (stop-value source (a .line) seven j 0 inside (rw (← is) (sym (told .ensures) ∙ not-true (told .result) (w .0 .taken)))),
+          (stop-value source (a .line) seven j 0 inside (rw (← is)
+          (sym (told .ensures) ∙ not-true (told .result) (w .0 .taken)))),
     ))
     (λ w. (
       omega arith,
@@ -58,7 +60,8 @@ returns c =
     let s = l .before .before in
     record {
       few = omega (arith, l .before .column-count .ensures .0);
-      all = λ source. rw (stop-all source (s .args .line) (s .pre) (l .loop .j) (omega (arith, l .before .column-count .ensures .0))) at (l .loop .inv .2 source);
+      all = λ source. rw (stop-all source (s .args .line) (s .pre) (l .loop .j)
+          (omega (arith, l .before .column-count .ensures .0))) at (l .loop .inv .2 source);
     }
 
 -- ---- found by search

@@ -11,7 +11,8 @@ use Rattle.layouts.proofs.Laid.{laid-out}
 use Rattle.layouts.proofs.laying.put_all.Statement.{statement}
 use Rattle.layouts.proofs.laying.put_all.Tie as tie
 
-room : (s : tie.Start) → Room (headOf (s .args .layout) (s .args .line .tag) (s .args .size) ++ restOf (s .args .layout) (now (s .args .source)) (s .args .line) 0 (s .args .n)) (now (s .args .out))
+room : (s : tie.Start) → Room (headOf (s .args .layout) (s .args .line .tag) (s .args .size) ++ restOf
+    (s .args .layout) (now (s .args .source)) (s .args .line) 0 (s .args .n)) (now (s .args .out))
 room s =
     let a = s .args in
     rw (laid-out (a .layout) (now (a .source)) (a .line) (a .n) (a .size) (s .pre .0)) at (s .pre .1)
@@ -20,14 +21,16 @@ put-head-requires : tie.Need-put-head-requires
 put-head-requires c κs =
     let s = c .before .before .before in
     let a = s .args in
-    first (headOf (a .layout) (a .line .tag) (a .size)) (restOf (a .layout) (now (a .source)) (a .line) 0 (a .n)) (now (a .out)) (room s)
+    first (headOf (a .layout) (a .line .tag) (a .size)) (restOf (a .layout) (now (a .source)) (a .line) 0 (a .n))
+    (now (a .out)) (room s)
 
 sub-put-fields : tie.Need-sub-put-fields
 sub-put-fields c =
     let s = c .before .before .before .before .before .before in
     let a = s .args in
     let p = c .before .before .put-head in
-    inside (headOf (a .layout) (a .line .tag) (a .size)) (restOf (a .layout) (now (a .source)) (a .line) 0 (a .n)) (now (a .out)) (room s) (p .last .0) (p .result) (p .ensures)
+    inside (headOf (a .layout) (a .line .tag) (a .size)) (restOf (a .layout) (now (a .source)) (a .line) 0 (a .n))
+    (now (a .out)) (room s) (p .last .0) (p .result) (p .ensures)
 
 part-put-fields-start : tie.Need-part-put-fields-start
 part-put-fields-start c = sub-put-fields c
@@ -39,7 +42,8 @@ put-fields-requires c κs =
     let p = c .before .before .before .put-head in (
       s .pre .0 .there,
       s .pre .0 .stops .few,
-      behind (headOf (a .layout) (a .line .tag) (a .size)) (restOf (a .layout) (now (a .source)) (a .line) 0 (a .n)) (now (a .out)) (room s) (p .last .0) (p .result) (p .ensures),
+      behind (headOf (a .layout) (a .line .tag) (a .size)) (restOf (a .layout) (now (a .source)) (a .line) 0 (a .n))
+          (now (a .out)) (room s) (p .last .0) (p .result) (p .ensures),
     )
 
 returns : tie.Need-returns
@@ -49,7 +53,8 @@ returns c =
     let p = c .before .before .before .before .before .before .put-head in
     let q = c .before .before .put-fields in
     rw (laid-out (a .layout) (now (a .source)) (a .line) (a .n) (a .size) (s .pre .0))
-    (both (headOf (a .layout) (a .line .tag) (a .size)) (restOf (a .layout) (now (a .source)) (a .line) 0 (a .n)) (now (a .out)) (room s) (p .last .0) (p .result) (p .ensures)
+    (both (headOf (a .layout) (a .line .tag) (a .size)) (restOf (a .layout) (now (a .source)) (a .line) 0 (a .n))
+    (now (a .out)) (room s) (p .last .0) (p .result) (p .ensures)
     (q .last .0) (q .result) (q .ensures))
 
 add-result : tie.Need-add-result

@@ -21,7 +21,8 @@ sub-put-pair c =
     let s = c .before .before .before .before .before in
     let a = s .args in
     let p = c .before .before .put-number in
-    inside (written (a .order) 2 (a .size)) (countType ∷ subOf (a .tag) ∷ []) (now (a .out)) (s .pre) (p .last .0) (p .result) (p .ensures)
+    inside (written (a .order) 2 (a .size)) (countType ∷ subOf (a .tag) ∷ []) (now (a .out)) (s .pre) (p .last .0)
+    (p .result) (p .ensures)
 
 part-put-pair-start : tie.Need-part-put-pair-start
 part-put-pair-start c = sub-put-pair c
@@ -31,7 +32,8 @@ put-pair-requires c κs =
     let s = c .before .before .before .before .before .before .before in
     let a = s .args in
     let p = c .before .before .before .before .put-number in
-    behind (written (a .order) 2 (a .size)) (countType ∷ subOf (a .tag) ∷ []) (now (a .out)) (s .pre) (p .last .0) (p .result) (p .ensures)
+    behind (written (a .order) 2 (a .size)) (countType ∷ subOf (a .tag) ∷ []) (now (a .out)) (s .pre) (p .last .0)
+    (p .result) (p .ensures)
 
 returns : tie.Need-returns
 returns c =
@@ -39,7 +41,8 @@ returns c =
     let a = s .args in
     let p = c .before .before .before .before .before .before .before .put-number in
     let q = c .before .before .put-pair in
-    both (written (a .order) 2 (a .size)) (countType ∷ subOf (a .tag) ∷ []) (now (a .out)) (s .pre) (p .last .0) (p .result) (p .ensures)
+    both (written (a .order) 2 (a .size)) (countType ∷ subOf (a .tag) ∷ []) (now (a .out)) (s .pre) (p .last .0)
+    (p .result) (p .ensures)
     (q .last .0) (q .result) (rw (c .before .before .before .sub-of .ensures) at (q .ensures))
 
 add-result : tie.Need-add-result

@@ -13,15 +13,19 @@ use Rattle.layouts.proofs.laying.put_marked.Tie as tie
 put-entry-requires : tie.Need-put-entry-requires
 put-entry-requires c κs =
     let s = c .before .before .before in
-    let a = s .args in
-    (s .pre .0, first (entryText (entryOf (now (a .source)) (a .said))) (mark (a .last) ∷ []) (now (a .out)) (s .pre .1))
+    let a = s .args in (
+      s .pre .0,
+      first (entryText (entryOf (now (a .source)) (a .said))) (mark (a .last) ∷ []) (now (a .out))
+          (s .pre .1),
+    )
 
 sub-put-byte : tie.Need-sub-put-byte
 sub-put-byte c =
     let s = c .before .before .before .before .before .before in
     let a = s .args in
     let p = c .before .before .put-entry in
-    inside (entryText (entryOf (now (a .source)) (a .said))) (mark (a .last) ∷ []) (now (a .out)) (s .pre .1) (p .last .0) (p .result) (p .ensures)
+    inside (entryText (entryOf (now (a .source)) (a .said))) (mark (a .last) ∷ []) (now (a .out)) (s .pre .1)
+    (p .last .0) (p .result) (p .ensures)
 
 part-put-byte-start : tie.Need-part-put-byte-start
 part-put-byte-start c = sub-put-byte c
@@ -31,7 +35,8 @@ put-byte-requires c κs =
     let s = c .before .before .before .before .before .before .before .before in
     let a = s .args in
     let p = c .before .before .before .before .put-entry in
-    behind (entryText (entryOf (now (a .source)) (a .said))) (mark (a .last) ∷ []) (now (a .out)) (s .pre .1) (p .last .0) (p .result) (p .ensures)
+    behind (entryText (entryOf (now (a .source)) (a .said))) (mark (a .last) ∷ []) (now (a .out)) (s .pre .1)
+    (p .last .0) (p .result) (p .ensures)
 
 returns : tie.Need-returns
 returns c =
@@ -39,7 +44,8 @@ returns c =
     let a = s .args in
     let p = c .before .before .before .before .before .before .before .put-entry in
     let q = c .before .before .put-byte in
-    both (entryText (entryOf (now (a .source)) (a .said))) (mark (a .last) ∷ []) (now (a .out)) (s .pre .1) (p .last .0) (p .result) (p .ensures)
+    both (entryText (entryOf (now (a .source)) (a .said))) (mark (a .last) ∷ []) (now (a .out)) (s .pre .1)
+    (p .last .0) (p .result) (p .ensures)
     (q .last .0) (q .result) (rw (c .before .before .before .mark-of .ensures) at (q .ensures))
 
 add-result : tie.Need-add-result

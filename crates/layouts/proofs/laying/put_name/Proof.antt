@@ -12,19 +12,22 @@ use Rattle.layouts.proofs.Laid.{name-count}
 use Rattle.layouts.proofs.laying.put_name.Statement.{statement}
 use Rattle.layouts.proofs.laying.put_name.Tie as tie
 
-room : (s : tie.Start) → Room (written (s .args .order) 1 (s .args .name .len) ++ named (now (s .args .source)) (s .args .name)) (now (s .args .out))
+room : (s : tie.Start) → Room (written (s .args .order) 1 (s .args .name .len) ++ named (now (s .args .source))
+    (s .args .name)) (now (s .args .out))
 room s = rw (name-count (s .args .order) (now (s .args .source)) (s .args .name) (s .pre .0)) at (s .pre .1)
 
 put-number-requires : tie.Need-put-number-requires
 put-number-requires c κs =
     let s = c .before .before .before in
-    first (written (s .args .order) 1 (s .args .name .len)) (named (now (s .args .source)) (s .args .name)) (now (s .args .out)) (room s)
+    first (written (s .args .order) 1 (s .args .name .len)) (named (now (s .args .source)) (s .args .name))
+    (now (s .args .out)) (room s)
 
 sub-put-part : tie.Need-sub-put-part
 sub-put-part c =
     let s = c .before .before .before .before .before .before in
     let p = c .before .before .put-number in
-    inside (written (s .args .order) 1 (s .args .name .len)) (named (now (s .args .source)) (s .args .name)) (now (s .args .out)) (room s) (p .last .0) (p .result) (p .ensures)
+    inside (written (s .args .order) 1 (s .args .name .len)) (named (now (s .args .source)) (s .args .name))
+    (now (s .args .out)) (room s) (p .last .0) (p .result) (p .ensures)
 
 part-put-part-start : tie.Need-part-put-part-start
 part-put-part-start c = sub-put-part c
@@ -34,7 +37,8 @@ put-part-requires c κs =
     let s = c .before .before .before .before .before .before .before in
     let p = c .before .before .before .put-number in
     let a = s .args in
-    let left = behind (written (a .order) 1 (a .name .len)) (named (now (a .source)) (a .name)) (now (a .out)) (room s) (p .last .0) (p .result) (p .ensures) in
+    let left = behind (written (a .order) 1 (a .name .len)) (named (now (a .source)) (a .name)) (now (a .out))
+    (room s) (p .last .0) (p .result) (p .ensures) in
     (s .pre .0 .0, omega (arith, left, length-part (a .name .at) (a .name .len) (now (a .source)) (s .pre .0 .0)))
 
 returns : tie.Need-returns
@@ -44,7 +48,8 @@ returns c =
     let q = c .before .before .put-part in
     let a = s .args in
     rw (name-count (a .order) (now (a .source)) (a .name) (s .pre .0))
-    (both (written (a .order) 1 (a .name .len)) (named (now (a .source)) (a .name)) (now (a .out)) (room s) (p .last .0) (p .result) (p .ensures) (q .last .0) (q .result) (q .ensures))
+    (both (written (a .order) 1 (a .name .len)) (named (now (a .source)) (a .name)) (now (a .out)) (room s)
+    (p .last .0) (p .result) (p .ensures) (q .last .0) (q .result) (q .ensures))
 
 add-result : tie.Need-add-result
 add-result c =

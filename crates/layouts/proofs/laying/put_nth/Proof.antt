@@ -25,18 +25,28 @@ put-stored-requires c κs =
     let s = c .before .before .before .before .before .before .before .before in
     let is = c .before .before .before .before .before .said-at .ensures in (
       rw is (s .pre .0 .there .within (s .args .j)),
-      rw (c .before .before .layout .given .1, ← is, ← c .before .before .before .before .column-at .ensures) at (s .pre .1),
+      rw (c .before .before .layout .given .1, ← is, ← c .before .before .before .before .column-at .ensures)
+          at (s .pre .1),
     )
 
 returns : tie.Need-returns
 unfolding nthBytes
 returns c =
-    rw (c .before .before .before .before .enum-told .given .1, ← c .before .before .before .before .before .before .before .said-at .ensures) (c .before .before .put-marked .ensures)
+    rw (
+      c .before .before .before .before .enum-told .given .1,
+      ← c .before .before .before .before .before .before .before .said-at .ensures,
+    )
+    (c .before .before .put-marked .ensures)
 
 returns-2 : tie.Need-returns-2
 unfolding nthBytes
 returns-2 c =
-    rw (c .before .before .before .before .before .layout .given .1, ← c .before .before .before .before .before .before .before .before .said-at .ensures, ← c .before .before .before .before .before .before .before .column-at .ensures) (c .before .before .put-stored .ensures)
+    rw (
+      c .before .before .before .before .before .layout .given .1,
+      ← c .before .before .before .before .before .before .before .before .said-at .ensures,
+      ← c .before .before .before .before .before .before .before .column-at .ensures,
+    )
+    (c .before .before .put-stored .ensures)
 
 -- ---- found by search
 

@@ -26,7 +26,12 @@ put-u2-requires : tie.Need-put-u2-requires
 put-u2-requires c κs =
     let s = c .before .before .before .before .before in
     let a = s .args in
-    omega (arith, s .pre, length-written (a .order) (width (a .form)) (a .n), c .before .before .before .width-of .ensures .0)
+    omega (
+      arith,
+      s .pre,
+      length-written (a .order) (width (a .form)) (a .n),
+      c .before .before .before .width-of .ensures .0,
+    )
 
 returns-2 : tie.Need-returns-2
 returns-2 c =
@@ -42,7 +47,8 @@ put-u1-requires c κs =
     let a = s .args in
     let known = c .before .before .before in
     let w : width (a .form) ≡ known .width-of .result = sym (known .width-of .ensures .0) in
-    let one = width-one (a .form) (λ e. c .before .before .if1 .left (sym w ∙ e)) (λ e. c .before .if2 .left (sym w ∙ e)) in
+    let one = width-one (a .form) (λ e. c .before .before .if1 .left (sym w ∙ e))
+    (λ e. c .before .if2 .left (sym w ∙ e)) in
     omega (arith, s .pre, length-written (a .order) (width (a .form)) (a .n), one)
 
 returns-3 : tie.Need-returns-3

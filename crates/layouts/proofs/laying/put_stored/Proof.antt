@@ -6,7 +6,8 @@ use Rattle.layouts.proofs.laying.put_stored.Tie as tie
 
 put-number-requires : tie.Need-put-number-requires
 put-number-requires c κs =
-    rw (c .before .before .enum-told .given .1, ← c .missing-value .ensures) at (c .before .before .before .before .before .before .pre .1)
+    rw (c .before .before .enum-told .given .1, ← c .missing-value .ensures)
+    at (c .before .before .before .before .before .before .pre .1)
 
 put-number-requires-2 : tie.Need-put-number-requires-2
 put-number-requires-2 c κs =
@@ -20,7 +21,10 @@ put-text-requires c κs =
 
 returns : tie.Need-returns
 returns c =
-    rw (c .before .before .before .before .before .enum-told .given .1, ← c .before .before .before .missing-value .ensures) (c .before .before .put-number .ensures)
+    rw (
+      c .before .before .before .before .before .enum-told .given .1,
+      ← c .before .before .before .missing-value .ensures,
+    ) (c .before .before .put-number .ensures)
 
 returns-2 : tie.Need-returns-2
 returns-2 c =

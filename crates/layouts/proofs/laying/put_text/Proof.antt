@@ -28,14 +28,17 @@ put-part-requires c κs =
 returns : tie.Need-returns
 returns c =
     let a = c .before .before .before .before .before .before .before .before .args in
-    let is = sym (c .before .before .before .before .before .is-name .ensures) ∙ c .before .before .before .before .if1 .taken in
+    let is = sym (c .before .before .before .before .before .is-name .ensures) ∙
+    c .before .before .before .before .if1 .taken in
     rw (counted-name (a .order) (a .form) (named (now (a .source)) (a .name)) is) (c .before .before .put-name .ensures)
 
 returns-2 : tie.Need-returns-2
 returns-2 c =
     let a = c .before .before .before .before .before .before .before .before .args in
-    let is = sym (c .before .before .before .before .before .is-name .ensures) ∙ c .before .before .before .before .if1 .left in
-    rw (counted-plain (a .order) (a .form) (named (now (a .source)) (a .name)) is) (c .before .before .put-part .ensures)
+    let is = sym (c .before .before .before .before .before .is-name .ensures) ∙
+    c .before .before .before .before .if1 .left in
+    rw (counted-plain (a .order) (a .form) (named (now (a .source)) (a .name)) is)
+    (c .before .before .put-part .ensures)
 
 -- ---- found by search
 

@@ -15,12 +15,20 @@ text-size-requires c κs = rw (c .before .said .given .1) at (c .before .before 
 returns : tie.Need-returns
 returns c =
     let a = c .before .before .before .before .args in
-    rw (c .before .enum-told .given .1) (c .width-of .ensures .0 ∙ sym (length-written (a .order) (width (a .form)) (missingValue (a .form))), omega arith)
+    rw (c .before .enum-told .given .1) (
+      c .width-of .ensures .0 ∙
+          sym (length-written (a .order) (width (a .form)) (missingValue (a .form))),
+      omega arith,
+    )
 
 returns-2 : tie.Need-returns-2
 returns-2 c =
     let a = c .before .before .before .before .args in
-    rw (c .before .enum-told2 .given .1) (c .width-of2 .ensures .0 ∙ sym (length-written (a .order) (width (a .form)) _), omega arith)
+    rw (c .before .enum-told2 .given .1) (
+      c .width-of2 .ensures .0 ∙
+          sym (length-written (a .order) (width (a .form)) _),
+      omega arith,
+    )
 
 returns-3 : tie.Need-returns-3
 returns-3 c = rw (c .before .before .said .given .1) (c .text-size .ensures)

@@ -24,8 +24,10 @@ returns-2 : tie.Need-returns-2
 returns-2 c =
     let s = c .before .before .before in
     let is = sym (c .before .is-name .ensures) ∙ c .if1 .left in
-    rw (counted-plain (s .args .order) (s .args .form) (named (now (s .args .source)) (s .args .name)) is)
-    (sym (length-part (s .args .name .at) (s .args .name .len) (now (s .args .source)) (s .pre .0)), omega (arith, s .pre .1))
+    rw (counted-plain (s .args .order) (s .args .form) (named (now (s .args .source)) (s .args .name)) is) (
+      sym (length-part (s .args .name .at) (s .args .name .len) (now (s .args .source)) (s .pre .0)),
+      omega (arith, s .pre .1),
+    )
 
 -- ---- found by search
 

@@ -36,7 +36,8 @@ returns c =
     let told = c .before .is-allowed in
     let size = length-part (a .at) (a .len) (now (a .source)) (s .pre) in
     sym (l .loop .inv .1 ∙ each-fails ℕ allowed bytes i 0 (omega arith)
-    (rw (part-at (a .at) (a .len) i (now (a .source)) (omega arith)) (sym (told .ensures) ∙ not-true (told .result) (c .if1 .taken))))
+    (rw (part-at (a .at) (a .len) i (now (a .source)) (omega arith))
+    (sym (told .ensures) ∙ not-true (told .result) (c .if1 .taken))))
 
 loop-again : tie.Need-loop-again Inv-loop μ-loop
 loop-again c =
@@ -49,7 +50,8 @@ loop-again c =
     let size = length-part (a .at) (a .len) (now (a .source)) (s .pre) in (
       omega arith,
       l .loop .inv .1 ∙ each-on ℕ allowed bytes i 0 (omega arith)
-          (rw (part-at (a .at) (a .len) i (now (a .source)) (omega arith)) (sym (told .ensures) ∙ not-false (told .result) (c .if1 .left))),
+          (rw (part-at (a .at) (a .len) i (now (a .source)) (omega arith))
+          (sym (told .ensures) ∙ not-false (told .result) (c .if1 .left))),
     )
 
 returns-2 : tie.Need-returns-2 Inv-loop μ-loop

@@ -14,7 +14,10 @@ returns c =
 
 returns-2 : tie.Need-returns-2
 returns-2 c =
-    rw (← c .before .before .before .before .before .before .before .judge-content .ensures .means, c .before .before .before .before .enum-told .given .1) (c .before .before .place .ensures)
+    rw (
+      ← c .before .before .before .before .before .before .before .judge-content .ensures .means,
+      c .before .before .before .before .enum-told .given .1,
+    ) (c .before .before .place .ensures)
 
 -- ---- found by search
 

@@ -45,7 +45,8 @@ returns c =
     let es = entriesOf (now (a .source)) (a .line) in
     let told = c .before .said-allowed in
     let inside : j < length (columns (a .line .tag)) = omega arith in
-    sym (l .loop .inv .1 ∙ each-fails Entry entryAllowed es j Missing (omega (arith, length-entries (now (a .source)) (a .line) seven))
+    sym (l .loop .inv .1 ∙ each-fails Entry entryAllowed es j Missing
+    (omega (arith, length-entries (now (a .source)) (a .line) seven))
     (rw (said-at (now (a .source)) (a .line) seven j inside, ← c .before .before .said-at .ensures)
     (sym (told .ensures) ∙ not-true (told .result) (c .if1 .taken))))
 
@@ -61,7 +62,8 @@ loop-again c =
     let told = c .before .said-allowed in
     let inside : j < length (columns (a .line .tag)) = omega arith in (
       omega arith,
-      l .loop .inv .1 ∙ each-on Entry entryAllowed es j Missing (omega (arith, length-entries (now (a .source)) (a .line) seven))
+      l .loop .inv .1 ∙ each-on Entry entryAllowed es j Missing
+          (omega (arith, length-entries (now (a .source)) (a .line) seven))
           (rw (said-at (now (a .source)) (a .line) seven j inside, ← c .before .before .said-at .ensures)
           (sym (told .ensures) ∙ not-false (told .result) (c .if1 .left))),
     )

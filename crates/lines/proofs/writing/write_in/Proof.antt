@@ -12,7 +12,8 @@ use Rattle.records.proofs.Judges.{part-rest, none-frame, none-within}
 use Rattle.lines.proofs.writing.write_in.Statement.{statement}
 use Rattle.lines.proofs.writing.write_in.Tie as tie
 
-none : (c : tie.After-enum-told) → judged (c .before .before .before .before .before .before .args .order) (now (c .before .before .before .before .before .before .args .«record»)) .fault ≡ None
+none : (c : tie.After-enum-told) → judged (c .before .before .before .before .before .before .args .order)
+    (now (c .before .before .before .before .before .before .args .«record»)) .fault ≡ None
 none c = rw (c .before .before .before .judge-record .ensures) at (c .enum-told .given .1)
 
 sub-write-said : tie.Need-sub-write-said
@@ -28,7 +29,9 @@ write-said-requires c κs =
     let s = c .before .before .before .before .before .before .before .before in
     let bytes = now (s .args .«record») in
     rw (part-rest 4 bytes, c .before .before .before .before .before .judge-record .ensures)
-    (none-within (s .args .order) bytes (none (c .before .before)) (rw (getD-drop 4 bytes 9 0) (omega (arith, c .before .before .before .before .before .before .shared-slice-known .given 13))))
+    (none-within (s .args .order) bytes (none (c .before .before))
+    (rw (getD-drop 4 bytes 9 0)
+    (omega (arith, c .before .before .before .before .before .before .shared-slice-known .given 13))))
 
 returns : tie.Need-returns
 returns c =
@@ -38,7 +41,8 @@ returns-2 : tie.Need-returns-2
 returns-2 c =
     let a = c .before .before .before .before .before .before .before .before .before .before .before .args in
     let judge = c .before .before .before .before .before .before .before .before .judge-record .ensures in
-    rw (none (c .before .before .before .before .before), ← judge) (rw (part-rest 4 (now (a .«record»))) at (c .before .before .write-said .ensures))
+    rw (none (c .before .before .before .before .before), ← judge)
+    (rw (part-rest 4 (now (a .«record»))) at (c .before .before .write-said .ensures))
 
 -- ---- found by search
 

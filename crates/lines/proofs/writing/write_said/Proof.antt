@@ -7,7 +7,8 @@ use Rattle.lines.proofs.writing.write_said.Tie as tie
 
 returns : tie.Need-returns
 returns c =
-    rw (sym (c .before .before .before .before .before .line-allowed .ensures) ∙ c .before .before .before .before .if1 .taken) (c .before .before .place .ensures)
+    rw (sym (c .before .before .before .before .before .line-allowed .ensures) ∙
+    c .before .before .before .before .if1 .taken) (c .before .before .place .ensures)
 
 returns-2 : tie.Need-returns-2
 returns-2 c = rw (sym (c .before .line-allowed .ensures) ∙ c .if1 .left)

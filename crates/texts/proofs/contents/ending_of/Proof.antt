@@ -21,8 +21,10 @@ returns-2 c =
 returns-3 : tie.Need-returns-3
 returns-3 c =
     let s = now (c .before .before .before .before .before .before .before .args .line) in
-    let other = rw (c .before .before .before-last .ensures) at (c .if3 .left) in
-    (sym (ending-feed s other (c .before .before .before .if2 .taken)), omega (arith, c .before .before .before .before .before .if1 .left))
+    let other = rw (c .before .before .before-last .ensures) at (c .if3 .left) in (
+      sym (ending-feed s other (c .before .before .before .if2 .taken)),
+      omega (arith, c .before .before .before .before .before .if1 .left),
+    )
 
 returns-4 : tie.Need-returns-4
 returns-4 c =

@@ -18,7 +18,11 @@ returns-2 : tie.Need-returns-2
 returns-2 c =
     let a = c .before .before .before .args in
     let s = now (a .s) in
-    rw (starts-long (a .a) (a .b) (a .c) (a .d) s (c .before .before .if1 .left), ne-eqb (getD s 0 0) (a .a) (c .if2 .taken))
+    rw (
+      starts-long (a .a) (a .b) (a .c) (a .d) s (c .before .before .if1 .left),
+      ne-eqb (getD s 0 0) (a .a)
+          (c .if2 .taken),
+    )
 
 returns-3 : tie.Need-returns-3
 returns-3 c =

@@ -38,7 +38,8 @@ loop-again c =
 returns-2 : tie.Need-returns-2 Inv-loop μ-loop
 returns-2 c =
     let l = c .before in
-    sym (l .loop .inv .1 ∙ each-ends ℕ (λ (b : ℕ). not (isBreak b)) (now (l .before .before .args .s)) (l .loop .i) 0 (omega arith))
+    sym (l .loop .inv .1 ∙ each-ends ℕ (λ (b : ℕ). not (isBreak b)) (now (l .before .before .args .s)) (l .loop .i)
+    0 (omega arith))
 
 -- ---- found by search
 

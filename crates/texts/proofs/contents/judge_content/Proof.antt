@@ -22,7 +22,8 @@ returns c =
 
 judge-fields-requires : tie.Need-judge-fields-requires
 judge-fields-requires c κs =
-    tag-four (now (c .before .before .before .before .before .before .before .args .s)) (c .before .tag .given .0 .0) (sym (c .before .before .before .tag-of .ensures) ∙ c .before .tag .given .1)
+    tag-four (now (c .before .before .before .before .before .before .before .args .s))
+    (c .before .tag .given .0 .0) (sym (c .before .before .before .tag-of .ensures) ∙ c .before .tag .given .1)
 
 returns-2 : tie.Need-returns-2
 returns-2 c =
@@ -34,7 +35,8 @@ returns-3 : tie.Need-returns-3
 returns-3 c =
     let s = now (c .before .before .before .before .before .before .before .args .s) in
     let tagged = sym (c .before .before .before .tag-of .ensures) ∙ c .before .enum-told .given .1 in
-    rw (c .refused-line2 .ensures) (taken-refused s (contentMeans s) (rw (content-tagged s (whole (c .before .before .before .before)), tagged)))
+    rw (c .refused-line2 .ensures) (taken-refused s (contentMeans s)
+    (rw (content-tagged s (whole (c .before .before .before .before)), tagged)))
 
 -- ---- found by search
 

@@ -15,7 +15,8 @@ use Rattle.texts.proofs.Whole.{taken-refused, mean-misfit, mean-sites, 
 use Rattle.texts.proofs.contents.judge_fields.Statement.{statement}
 use Rattle.texts.proofs.contents.judge_fields.Tie as tie
 
-fits : (c : tie.Else1) → fieldsFit (columns (c .before .before .before .args .tag)) (split (drop 4 (now (c .before .before .before .args .s)))) ≡ true
+fits : (c : tie.Else1) → fieldsFit (columns (c .before .before .before .args .tag))
+    (split (drop 4 (now (c .before .before .before .args .s)))) ≡ true
 fits c = sym (c .before .fields-fit .ensures) ∙ not-false (c .before .fields-fit .result) (c .if1 .left)
 
 returns : tie.Need-returns
@@ -40,7 +41,8 @@ returns-2 c =
     let told = c .before .before .sites-fit in
     let is = ap (λ (m : Meaning). m .entries) (c .before .before .before .fill .ensures .is) in
     rw (c .refused-line2 .ensures) (taken-refused s (fieldsMean (a .tag) ps)
-    (mean-sites (a .tag) ps (fits (c .before .before .before .before)) (rw (← is) (sym (told .ensures .all s) ∙ not-true (told .result) (c .before .if2 .taken)))))
+    (mean-sites (a .tag) ps (fits (c .before .before .before .before))
+    (rw (← is) (sym (told .ensures .all s) ∙ not-true (told .result) (c .before .if2 .taken)))))
 
 returns-3 : tie.Need-returns-3
 returns-3 c =
@@ -50,7 +52,8 @@ returns-3 c =
     let told = c .before .before .sites-fit in
     let filled = c .before .before .before .fill .ensures in
     let is = ap (λ (m : Meaning). m .entries) (filled .is) in
-    let said = mean-said (a .tag) ps (fits (c .before .before .before .before)) (rw (← is) (sym (told .ensures .all s) ∙ not-false (told .result) (c .before .if2 .left))) in
+    let said = mean-said (a .tag) ps (fits (c .before .before .before .before))
+    (rw (← is) (sym (told .ensures .all s) ∙ not-false (told .result) (c .before .if2 .left))) in
     rw (c .said-line .ensures) record { means = ap Says (filled .is) ∙ sym said; there = λ e. filled .there }
 
 -- ---- found by search

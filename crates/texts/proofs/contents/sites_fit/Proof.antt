@@ -10,12 +10,28 @@ use Rattle.texts.proofs.contents.sites_fit.Tie as tie
 returns : tie.Need-returns
 returns c =
     let s = c .before .before .before .before .before in
-    record { all = λ source. rw (sites-told source (s .args .line) (s .pre), ← c .before .before .before .before .said-at .ensures, ← c .before .before .before .is-missing .ensures, c .if1 .taken, ← c .before .before .said-at2 .ensures) (c .before .is-missing2 .ensures) }
+    record {
+      all = λ source. rw (
+        sites-told source (s .args .line) (s .pre),
+        ← c .before .before .before .before .said-at .ensures,
+        ← c .before .before .before .is-missing .ensures,
+        c .if1 .taken,
+        ← c .before .before .said-at2 .ensures,
+      ) (c .before .is-missing2 .ensures);
+    }
 
 returns-2 : tie.Need-returns-2
 returns-2 c =
     let s = c .before .before .before .before .before in
-    record { all = λ source. rw (sites-told source (s .args .line) (s .pre), ← c .before .before .before .before .said-at .ensures, ← c .before .before .before .is-missing .ensures, c .if1 .left, ← c .before .before .said-at2 .ensures) (ap not (c .before .is-missing2 .ensures)) }
+    record {
+      all = λ source. rw (
+        sites-told source (s .args .line) (s .pre),
+        ← c .before .before .before .before .said-at .ensures,
+        ← c .before .before .before .is-missing .ensures,
+        c .if1 .left,
+        ← c .before .before .said-at2 .ensures,
+      ) (ap not (c .before .is-missing2 .ensures));
+    }
 
 -- ---- found by search
 

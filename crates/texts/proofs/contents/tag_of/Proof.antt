@@ -13,17 +13,25 @@ returns c =
 
 returns-2 : tie.Need-returns-2
 returns-2 c =
-    tag-hbr (now (c .before .before .before .before .before .args .s)) (sym (c .before .before .before .is-tag .ensures) ∙ c .before .before .if1 .left) (sym (c .before .is-tag2 .ensures) ∙ c .if2 .taken)
+    tag-hbr (now (c .before .before .before .before .before .args .s))
+    (sym (c .before .before .before .is-tag .ensures) ∙ c .before .before .if1 .left)
+    (sym (c .before .is-tag2 .ensures) ∙ c .if2 .taken)
 
 returns-3 : tie.Need-returns-3
 returns-3 c =
-    tag-sbr (now (c .before .before .before .before .before .before .before .args .s)) (sym (c .before .before .before .before .before .is-tag .ensures) ∙ c .before .before .before .before .if1 .left)
-    (sym (c .before .before .before .is-tag2 .ensures) ∙ c .before .before .if2 .left) (sym (c .before .is-tag3 .ensures) ∙ c .if3 .taken)
+    tag-sbr (now (c .before .before .before .before .before .before .before .args .s))
+    (sym (c .before .before .before .before .before .is-tag .ensures) ∙
+    c .before .before .before .before .if1 .left)
+    (sym (c .before .before .before .is-tag2 .ensures) ∙ c .before .before .if2 .left)
+    (sym (c .before .is-tag3 .ensures) ∙ c .if3 .taken)
 
 returns-4 : tie.Need-returns-4
 returns-4 c =
-    tag-other (now (c .before .before .before .before .before .before .before .args .s)) (sym (c .before .before .before .before .before .is-tag .ensures) ∙ c .before .before .before .before .if1 .left)
-    (sym (c .before .before .before .is-tag2 .ensures) ∙ c .before .before .if2 .left) (sym (c .before .is-tag3 .ensures) ∙ c .if3 .left)
+    tag-other (now (c .before .before .before .before .before .before .before .args .s))
+    (sym (c .before .before .before .before .before .is-tag .ensures) ∙
+    c .before .before .before .before .if1 .left)
+    (sym (c .before .before .before .is-tag2 .ensures) ∙ c .before .before .if2 .left)
+    (sym (c .before .is-tag3 .ensures) ∙ c .if3 .left)
 
 -- ---- found by search
 

@@ -15,7 +15,8 @@ use Rattle.texts.proofs.pieces.fields_fit.Tie as tie
 
 abbrev Inv-loop : tie.InvT-loop
 Inv-loop text tag count from₀ more₀ j₀ from more j =
-    (j ≤ count) × (from ≤ length text) × (fieldsFit (columns tag) (split (drop 4 text)) ≡ fieldsFit (drop j (columns tag)) (left more from text))
+    (j ≤ count) × (from ≤ length text) × (fieldsFit (columns tag) (split (drop 4 text)) ≡ fieldsFit
+    (drop j (columns tag)) (left more from text))
 
 abbrev μ-loop : tie.MeasureT-loop
 μ-loop text tag count from₀ more₀ j₀ from more j = count - j
@@ -37,8 +38,10 @@ returns c =
     let count = l .before .column-count .ensures .0 in
     let p = c .before .before .before .piece-at in
     let told = c .before .fits-at in
-    sym (l .loop .inv .2 ∙ fields-no (columns (a .tag)) (l .loop .j) (left (l .loop .more) (l .loop .from) s) (omega arith)
-    (rw (← p .ensures .is, ← c .before .before .column-at .ensures) (sym (told .ensures) ∙ not-true (told .result) (c .if1 .taken))))
+    sym (l .loop .inv .2 ∙ fields-no (columns (a .tag)) (l .loop .j) (left (l .loop .more) (l .loop .from) s)
+    (omega arith)
+    (rw (← p .ensures .is, ← c .before .before .column-at .ensures)
+    (sym (told .ensures) ∙ not-true (told .result) (c .if1 .taken))))
 
 loop-again : tie.Need-loop-again Inv-loop μ-loop
 loop-again c =
@@ -51,8 +54,10 @@ loop-again c =
       omega arith,
       p .ensures .on,
       rw (p .ensures .behind)
-          (l .loop .inv .2 ∙ fields-on (columns (a .tag)) (l .loop .j) (left (l .loop .more) (l .loop .from) s) (omega arith)
-          (rw (← p .ensures .is, ← c .before .before .column-at .ensures) (sym (told .ensures) ∙ not-false (told .result) (c .if1 .left)))),
+          (l .loop .inv .2 ∙ fields-on (columns (a .tag)) (l .loop .j) (left (l .loop .more) (l .loop .from) s)
+          (omega arith)
+          (rw (← p .ensures .is, ← c .before .before .column-at .ensures)
+          (sym (told .ensures) ∙ not-false (told .result) (c .if1 .left)))),
     )
 
 returns-2 : tie.Need-returns-2 Inv-loop μ-loop
@@ -61,7 +66,8 @@ returns-2 c =
     let a = l .before .before .before .args in
     let s = now (a .text) in
     let count = l .before .column-count .ensures .0 in
-    sym (l .loop .inv .2 ∙ fields-end (columns (a .tag)) (l .loop .j) (left (l .loop .more) (l .loop .from) s) (omega arith)
+    sym (l .loop .inv .2 ∙ fields-end (columns (a .tag)) (l .loop .j) (left (l .loop .more) (l .loop .from) s)
+    (omega arith)
     ∙ left-none (l .loop .more) (l .loop .from) s)
 
 -- ---- found by search

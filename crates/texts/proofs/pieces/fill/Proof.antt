@@ -24,15 +24,23 @@ abbrev Inv-loop : tie.InvT-loop
 Inv-loop text tag count fields₀ from₀ more₀ j₀ fields from more j =
     (j ≤ count) × (from ≤ length text) × (fieldsFit (drop j (columns tag)) (left more from text) ≡ true)
     × (length fields ≡ 7) × Withins text fields
-    × (map (λ (f : Field). entryOf text (f .said)) (take j fields) ++ entriesIn (drop j (columns tag)) (left more from text)
+    × (map (λ (f : Field). entryOf text (f .said)) (take j fields) ++ entriesIn (drop j (columns tag))
+    (left more from text)
     ≡ entriesIn (columns tag) (split (drop 4 text)))
 
 abbrev μ-loop : tie.MeasureT-loop
 μ-loop text tag count fields₀ from₀ more₀ j₀ fields from more j = count - j
 
 loop-holds : tie.Need-loop-holds Inv-loop μ-loop
-loop-holds c =
-    (omega arith, c .before .before .pre .0, c .before .before .pre .1, refl, within-none (now (c .before .before .args .text)) 0, refl)
+loop-holds c = (
+  omega arith,
+  c .before .before .pre .0,
+  c .before .before .pre .1,
+  refl,
+  within-none
+      (now (c .before .before .args .text)) 0,
+  refl,
+)
 
 column-at-requires : tie.Need-column-at-requires Inv-loop μ-loop
 column-at-requires c κs = omega (arith, c .before .before .before .column-count .ensures .0)
@@ -44,9 +52,11 @@ said-in-requires c κs =
     let p = c .before .piece-at .ensures in
     let inside : l .loop .j < length (columns (a .tag)) = omega (arith, l .before .column-count .ensures .0) in (
       p .there,
-      rw (c .column-at .ensures) (each-at Column short (columns (a .tag)) noColumn (l .loop .j) (short-columns (a .tag)) inside),
+      rw (c .column-at .ensures) (each-at Column short (columns (a .tag)) noColumn (l .loop .j)
+          (short-columns (a .tag)) inside),
       rw (c .column-at .ensures, p .is)
-          (fields-fits (columns (a .tag)) (l .loop .j) (left (l .loop .more) (l .loop .from) (now (a .text))) inside (l .loop .inv .2)),
+          (fields-fits (columns (a .tag)) (l .loop .j) (left (l .loop .more) (l .loop .from) (now (a .text))) inside
+          (l .loop .inv .2)),
     )
 
 mul-fields : tie.Need-mul-fields Inv-loop μ-loop
@@ -86,7 +96,8 @@ returns c =
       there = record { seven = l .loop .inv .3; within = l .loop .inv .4 };
       is =
           filled-all s (a .tag) (l .loop .fields) (l .loop .j) (left (l .loop .more) (l .loop .from) s)
-          (entriesIn (columns (a .tag)) (split (drop 4 s))) (omega (arith, l .before .column-count .ensures .0)) (l .loop .inv .5);
+          (entriesIn (columns (a .tag)) (split (drop 4 s))) (omega (arith, l .before .column-count .ensures .0))
+          (l .loop .inv .5);
     }
 
 -- ---- found by search

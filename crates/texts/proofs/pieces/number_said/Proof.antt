@@ -13,7 +13,12 @@ cast-t6 : tie.Need-cast-t6
 cast-t6 c =
     let s = c .before .before .before .before .before in
     let is = sym (c .before .before .before .read-number .ensures) ∙ c .before .n .given .1 in
-    omega (arith, number-small (s .args .most) (c .before .n .given .0 .0) (numeral (now (s .args .text))) is (s .pre), s .fits .most .fits)
+    omega (
+      arith,
+      number-small (s .args .most) (c .before .n .given .0 .0) (numeral (now (s .args .text))) is
+          (s .pre),
+      s .fits .most .fits,
+    )
 
 returns : tie.Need-returns
 returns c = rw (sym (c .before .before .before .read-number .ensures) ∙ c .before .n .given .1)

@@ -16,12 +16,14 @@ returns c =
 returns-2 : tie.Need-returns-2
 returns-2 c =
     let a = c .before .before .before .before .args in
-    next-more (now (a .text)) (a .from) (a .more) (c .before .piece-end .result) (c .before .piece-end .ensures) (not-false (a .more) (c .before .before .if1 .left)) (c .if2 .taken)
+    next-more (now (a .text)) (a .from) (a .more) (c .before .piece-end .result) (c .before .piece-end .ensures)
+    (not-false (a .more) (c .before .before .if1 .left)) (c .if2 .taken)
 
 returns-3 : tie.Need-returns-3
 returns-3 c =
     let a = c .before .before .before .before .args in
-    next-last (now (a .text)) (a .from) (a .more) (c .before .piece-end .result) (c .before .piece-end .ensures) (not-false (a .more) (c .before .before .if1 .left)) (c .if2 .left)
+    next-last (now (a .text)) (a .from) (a .more) (c .before .piece-end .result) (c .before .piece-end .ensures)
+    (not-false (a .more) (c .before .before .if1 .left)) (c .if2 .left)
 
 -- ---- found by search
 

@@ -31,8 +31,12 @@ returns c =
 loop-again : tie.Need-loop-again Inv-loop μ-loop
 loop-again c =
     let l = c .before .before .before in
-    let a = l .before .args in
-    (omega arith, omega arith, passed-on (now (a .text)) (a .from) (l .loop .i) (l .loop .inv .0) (omega arith) (c .if1 .left) (l .loop .inv .2))
+    let a = l .before .args in (
+      omega arith,
+      omega arith,
+      passed-on (now (a .text)) (a .from) (l .loop .i) (l .loop .inv .0) (omega arith)
+          (c .if1 .left) (l .loop .inv .2),
+    )
 
 returns-2 : tie.Need-returns-2 Inv-loop μ-loop
 returns-2 c =

@@ -13,7 +13,8 @@ use Rattle.texts.proofs.Fits.{piece-value, entry-empty, entry-value, nu
 use Rattle.texts.proofs.pieces.said_in.Statement.{statement}
 use Rattle.texts.proofs.pieces.said_in.Tie as tie
 
-some : (c : tie.Else1) → length (part (c .before .before .args .at) (c .before .before .args .len) (now (c .before .before .args .text))) ≡ 0 → ⊥
+some : (c : tie.Else1) → length (part (c .before .before .args .at) (c .before .before .args .len)
+    (now (c .before .before .args .text))) ≡ 0 → ⊥
 some c e =
     let a = c .before .before .args in
     c .if1 .left (sym (length-part (a .at) (a .len) (now (a .text)) (c .before .before .pre .0)) ∙ e)
@@ -28,14 +29,22 @@ number-said-requires c κs =
     let a = s .args in
     let size : a .at + a .len - a .at ≡ a .len = omega arith in
     let is = sym (c .before .before .is-number .ensures) ∙ c .before .if2 .taken in
-    rw size (rw (piece-value (a .column) (part (a .at) (a .len) (now (a .text))) (some (c .before .before .before)), is) at (s .pre .2))
+    rw size (rw (
+      piece-value (a .column) (part (a .at) (a .len) (now (a .text))) (some (c .before .before .before)),
+      is,
+    ) at (s .pre .2))
 
 returns-2 : tie.Need-returns-2
 returns-2 c =
     let a = c .before .before .before .before .before .before .args in
     let size : a .at + a .len - a .at ≡ a .len = omega arith in
     let is = sym (c .before .before .before .is-number .ensures) ∙ c .before .before .if2 .taken in
-    rw (entry-value (a .column) (part (a .at) (a .len) (now (a .text))) (some (c .before .before .before .before)), is, c .number-said .ensures, size)
+    rw (
+      entry-value (a .column) (part (a .at) (a .len) (now (a .text))) (some (c .before .before .before .before)),
+      is,
+      c .number-said .ensures,
+      size,
+    )
     (number-holds (now (a .text)) (numeral (part (a .at) (a .len) (now (a .text)))))
 
 returns-3 : tie.Need-returns-3
@@ -43,7 +52,11 @@ returns-3 c =
     let s = c .before .before .before .before .before .before in
     let a = s .args in
     let is = sym (c .before .before .before .is-number .ensures) ∙ c .before .before .if2 .left in
-    rw (entry-value (a .column) (part (a .at) (a .len) (now (a .text))) (some (c .before .before .before .before)), is, c .shorter .ensures)
+    rw (
+      entry-value (a .column) (part (a .at) (a .len) (now (a .text))) (some (c .before .before .before .before)),
+      is,
+      c .shorter .ensures,
+    )
     (text-holds (a .at) (a .len) (a .column .1) (now (a .text)) (s .pre .0) (short-most (a .column) (s .pre .1) is))
 
 -- ---- found by search

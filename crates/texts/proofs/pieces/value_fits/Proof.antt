@@ -14,12 +14,18 @@ returns c =
 returns-2 : tie.Need-returns-2
 returns-2 c =
     let piece = now (c .before .before .before .before .before .before .args .piece) in
-    rw (sym (c .before .before .before .before .is-number .ensures) ∙ c .before .before .before .if1 .left, sym (c .before .before .is-name .ensures) ∙ c .before .if2 .taken)
+    rw (
+      sym (c .before .before .before .before .is-number .ensures) ∙ c .before .before .before .if1 .left,
+      sym (c .before .before .is-name .ensures) ∙ c .before .if2 .taken,
+    )
     (rw (take-length piece) at (c .part-allowed .ensures))
 
 returns-3 : tie.Need-returns-3
 returns-3 c =
-    rw (sym (c .before .before .before .before .is-number .ensures) ∙ c .before .before .before .if1 .left, sym (c .before .before .is-name .ensures) ∙ c .before .if2 .left)
+    rw (
+      sym (c .before .before .before .before .is-number .ensures) ∙ c .before .before .before .if1 .left,
+      sym (c .before .before .is-name .ensures) ∙ c .before .if2 .left,
+    )
     (c .letter-fits .ensures)
 
 -- ---- found by search
