@@ -16,7 +16,7 @@ use Rattle.answers.specs.declared.Answer.the-variants as answer
 use Rattle.rising.specs.Rising.{rising, allBelow}
 use Rattle.rows.specs.Rows.{slotCount, mostHead, mostBin, slotOf, headOf, binOf, heldBy, sumBy, rowRight, rowsRight}
 use Rattle.rows.specs.Rows.{slotDropped, Rows, rows}
-use Rattle.rows.proofs.Laws.{count-within}
+use Rattle.rows.proofs.Laws.{count-within, row-taken}
 use Rattle.session.specs.Session as session
 use Rattle.session.specs.Session.{mostResults}
 use Rattle.session.proofs.Judgement.{sound-kept}
@@ -137,17 +137,6 @@ right-at taken (k ∷ ks) (c ∷ cs) zero e h = both-left (rowRight taken k c) (
 right-at taken (k ∷ ks) (c ∷ cs) (suc i) e h =
     right-at taken ks cs i (both-right (rowRight taken k c) (rowsRight taken ks cs) e) (omega arith)
 
-row-open : (taken : List Bool) (k c : ℕ) → rowRight taken k c ≡ true
-    → (slotOf k < slotCount) × (getD taken (slotOf k) false ≡ true)
-unfolding rowRight
-row-open taken k c e =
-    let inside = ltb (slotOf k) slotCount in
-    let there = getD taken (slotOf k) false in
-    let rest = leb (headOf k) mostHead && (leb (binOf k) mostBin && leb 1 c) in (
-      ltb-true (slotOf k) slotCount (both-left inside (there && rest) e),
-      both-left there rest (both-right inside (there && rest) e),
-    )
-
 module _ (h : House) (e : sound h ≡ true) (long : length (h .keys) ≡ rowCount) (paired : length (h .counts) ≡ rowCount)
     (slots-long : length (h .slots) ≡ slotCount) where
   keys-long : length (keysOf h) ≡ h .used
@@ -165,7 +154,7 @@ module _ (h : House) (e : sound h ≡ true) (long : length (h .keys) ≡ rowCoun
   count-low i g =
       let key = getD (keysOf h) i 0 in
       let in-keys : i < length (keysOf h) = omega (arith, keys-long, counts-long) in
-      let row = row-open (takenOf (h .slots)) key (getD (countsOf h) i 0)
+      let row = row-taken (takenOf (h .slots)) key (getD (countsOf h) i 0)
       (right-at (takenOf (h .slots)) (keysOf h) (countsOf h) i rows-right in-keys) in
       let there : getD (h .slots) (slotOf key) noSlot .taken ≡ true
       = sym (List·getD-map (λ (s : Slot). s .taken) (h .slots) (slotOf key) noSlot) ∙ row .1 in

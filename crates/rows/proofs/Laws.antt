@@ -17,7 +17,7 @@ use Rattle.rows.specs.Rows.{rowKey, slotOf, heldBy, heldFrom, sumBy, row
 use Rattle.rows.specs.Rows.{slotCount, headOf, binOf, mostHead, mostBin}
 use Rattle.rows.specs.Laws.{HeldRanks, HeldWithin, HeldAll, HeldInsert, SumInsert, SumMore, CountWithin}
 use Rattle.rows.specs.Laws.{RunOwn, HeldOut, HeldOther, SumOut, SumOther}
-use Rattle.rows.specs.Laws.{RightInsert, RightMore, RightRemove, RightOpen, RightClose, RightOut}
+use Rattle.rows.specs.Laws.{RightInsert, RightMore, RightRemove, ClosedNone, RightOpen, RightClose, RightOut}
 
 -- ---- a key and a slot
 
@@ -382,6 +382,30 @@ open-more (t ∷ taken) zero zero e = refl
 open-more (t ∷ taken) zero (suc m) e = e
 open-more (t ∷ taken) (suc s) zero e = e
 open-more (t ∷ taken) (suc s) (suc m) e = open-more taken s m e
+
+pub row-taken : (taken : List Bool) (k c : ℕ) → rowRight taken k c ≡ true
+    → (slotOf k < slotCount) × (getD taken (slotOf k) false ≡ true)
+unfolding rowRight
+row-taken taken k c e =
+    let inside = ltb (slotOf k) slotCount in
+    let there = getD taken (slotOf k) false in
+    let rest = leb (headOf k) mostHead && (leb (binOf k) mostBin && leb 1 c) in (
+      ltb-true (slotOf k) slotCount (both-left inside (there && rest) e),
+      both-left there rest (both-right inside (there && rest) e),
+    )
+
+pub closed-none : ClosedNone
+unfolding rowsRight heldBy sumBy
+closed-none taken [] cs s e shut = (refl, refl)
+closed-none taken (k ∷ ks) [] s e shut = absurd (false≢true e)
+closed-none taken (k ∷ ks) (c ∷ cs) s e shut =
+    let there = row-taken taken k c (right-head taken k c ks cs e) .1 in
+    let other : slotOf k ≡ s → ⊥ =
+        λ q. false≢true (sym shut ∙ sym (ap (λ (j : ℕ). getD taken j false) q) ∙ there) in
+    let rest = closed-none taken ks cs s (right-rest taken k c ks cs e) shut in (
+      rw (ne-eqb (slotOf k) s other) (omega (arith, rest .0)),
+      rw (ne-eqb (slotOf k) s other) (omega (arith, rest .1)),
+    )
 
 pub right-open : RightOpen
 unfolding rowsRight

@@ -86,6 +86,11 @@ abbrev pub RightRemove : Type 0
 RightRemove = (taken : List Bool) (ks cs : List ℕ) (at n : ℕ) → rowsRight taken ks cs ≡ true
     → rowsRight taken (removed ks at n) (removed cs at n) ≡ true
 
+-- a slot that is not open holds no row
+abbrev pub ClosedNone : Type 0
+ClosedNone = (taken : List Bool) (ks cs : List ℕ) (s : ℕ) → rowsRight taken ks cs ≡ true
+    → getD taken s false ≡ false → (heldBy s ks ≡ 0) × (sumBy s ks cs ≡ 0)
+
 -- a slot opened
 abbrev pub RightOpen : Type 0
 RightOpen = (taken : List Bool) (ks cs : List ℕ) (s : ℕ) → rowsRight taken ks cs ≡ true

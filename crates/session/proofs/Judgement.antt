@@ -55,7 +55,7 @@ use Rattle.session.specs.Judge.{inOrder, judgeIn, judgeOrdered, judgeFir
 use Rattle.session.specs.Judge.{judgePir, judgePrr, judgeMrr, judgeSaid, judgeLater, judge}
 use Rattle.session.specs.After.{after, verdictOn}
 use Rattle.session.specs.Laws.{counted, Within, KeyRight, SoundKept, JudgedWithin, JudgedSound, JudgedCounts}
-use Rattle.session.specs.Laws.{JudgedKey, JudgedLong, BegunSound}
+use Rattle.session.specs.Laws.{JudgedFew, JudgedKey, JudgedLong, BegunSound}
 
 -- ---- the ways to be accepted
 
@@ -240,6 +240,17 @@ judged-counts s rec =
   where
     Counts : Verdict → Type 0
     Counts v = after s v .standing .results ≡ s .standing .results + counted v
+
+pub judged-few : JudgedFew
+unfolding after
+judged-few s rec low =
+    judge-cases Few (λ a. low) (s .standing) (partsOf s) rec (λ order h. low)
+    (λ k q r h f.
+    said-cases Few (λ a. low) (at (s .standing) q) (partsOf s) r (λ t. low) (λ p t. low) (λ p t new few. low)
+    (λ p t there few. omega (arith, few)) (λ t done. low))
+  where
+    Few : Verdict → Type 0
+    Few v = after s v .standing .results ≤ mostResults
 
 -- ---- the key of a row that is asked for
 

@@ -15,7 +15,7 @@ use Rattle.session.specs.declared.Session.{Session}
 use Rattle.session.specs.declared.Standing.{Standing}
 use Rattle.session.specs.declared.Verdict.{Verdict}
 use Rattle.session.specs.declared.Verdict.the-variants.{Refused, Taken, Opened, Wanted}
-use Rattle.session.specs.Session.{mostOpen, pastParts, begun, sound, Kept}
+use Rattle.session.specs.Session.{mostOpen, mostResults, pastParts, begun, sound, Kept}
 use Rattle.session.specs.Judge.{judge}
 use Rattle.session.specs.After.{after, verdictOn}
 
@@ -55,6 +55,11 @@ JudgedSound = (s : Session) (rec : List ℕ) → Bytes rec → length (s .parts)
 abbrev pub JudgedCounts : Type 0
 JudgedCounts = (s : Session) (rec : List ℕ)
     → after s (verdictOn s rec) .standing .results ≡ s .standing .results + counted (verdictOn s rec)
+
+-- .. and never more than 4,294,967,295
+abbrev pub JudgedFew : Type 0
+JudgedFew = (s : Session) (rec : List ℕ) → s .standing .results ≤ mostResults
+    → after s (verdictOn s rec) .standing .results ≤ mostResults
 
 -- a row is asked for under a key that a row may have
 abbrev pub JudgedKey : Type 0
