@@ -2,3 +2,4 @@ pub mod Laws
 pub mod Delivering
 pub mod Calling
 pub mod Reporting
+pub mod Keeping

@@ -2,3 +2,4 @@ pub mod House
 pub mod Deliver
 pub mod Calls
 pub mod Report
+pub mod Laws

@@ -1,7 +1,7 @@
 // The house: document 01, "The house, its slots and its rows". Sessions draw rows from one pool, and each has a floor
 // of rows that nothing another session does can take. Every call takes a house by value and gives one back, tests its
 // soundness and answers, whatever is handed in.
-mod calls;
+pub mod calls;
 mod core;
 mod reports;
 mod rooms;
@@ -12,10 +12,6 @@ use session::Session;
 use session::Standing;
 ghost use mathlib.Core.Path.{_≡_};
 ghost use Rattle.house.specs.House.{closedSlot, openedSlot, fresh};
-pub use calls::close_slot;
-pub use calls::deliver;
-pub use calls::figures;
-pub use calls::open_slot;
 pub use core::deliver_lent;
 pub use reports::judge_report;
 pub use reports::report;
