@@ -7,10 +7,10 @@ use mathlib.Core.List.{List, [], _∷_, map}
 use Prim.Native.Nat.{ℕ, zero, suc, _+_, _-_, _*_, _/_, _%_, _≤_, _<_}
 use native.Mathlib.Nat.{add-zero, zero-add}
 use native.Mathlib.Omega.{arith}
-use borrow.Author.Tests.{le-leb, lt-ltb, leb-true, ltb-true, eq-eqb, ne-eqb, not-true}
+use borrow.Author.Tests.{le-leb, lt-ltb, leb-true, ltb-true, ltb-false, eq-eqb, ne-eqb, not-true}
 use lib.Dec.{leb, ltb, eqb}
 use lib.ListN.{length, getD, take, set, List·getD-map}
-use lib.Seq.{map-set-same, set-getD}
+use lib.Seq.{map-set-same, length-take-le}
 use Rattle.words.specs.Choice.{_unless_then_}
 use Rattle.words.proofs.Both.{both-left, both-right}
 use Rattle.numbers.specs.Laws.{Bytes}
@@ -22,6 +22,12 @@ use Rattle.rows.proofs.Laws.{closed-none, right-open}
 use Rattle.rows.proofs.Changes.{counted-used, counted-kept, counted-held-by, counted-sum-by, counted-right}
 use Rattle.rows.proofs.Changes.{dropped-used, dropped-kept, dropped-held-other, dropped-sum-other, dropped-right}
 use Rattle.session.specs.declared.Session.{Session}
+use Rattle.session.specs.declared.Standing.{Standing}
+use Rattle.session.specs.declared.Verdict.{Verdict}
+use Rattle.session.specs.declared.Verdict.the-variants.{Refused, Taken, Opened, Wanted}
+use Rattle.session.specs.Laws as verdict
+use Rattle.session.specs.Laws.{KeyRight}
+use Rattle.session.specs.After.{after, verdictOn, partClosed}
 use Rattle.session.specs.Session as session
 use Rattle.session.specs.Session.{mostOpen, mostResults, pastParts, begun, nothingYet}
 use Rattle.session.proofs.Judgement.{begun-sound, judged-sound, judged-counts, judged-few, judged-key}
@@ -30,10 +36,14 @@ use Rattle.house.specs.declared.House.{House}
 use Rattle.house.specs.declared.Answered.{Answered}
 use Rattle.house.specs.House.{rowCount, noSlot, closedSlot, openedSlot, fresh, keysOf, countsOf, free, unfilled}
 use Rattle.house.specs.House.{promisedFrom, promised, takenOf, rowsSound, slotSound, slotsSound, sound}
-use Rattle.house.specs.Calls.{slotAt, withSlot, answered, openSlot, closed, closeSlot}
+use Rattle.house.specs.Deliver.{Outcome, core, outcome, granted, rowed, rowTaken, resulted, resultedIf, settled}
+use Rattle.house.specs.Deliver.{delivered, LentCore}
+use Rattle.house.specs.Calls.{slotAt, withSlot, answered, openSlot, closed, closeSlot, roomOf, withOutcome}
+use Rattle.house.specs.Calls.{deliveredTo, deliver}
 use Rattle.house.specs.Laws.{Shaped, FreshSound, OpenKeeps, CloseKeeps, DeliverKeeps}
-use Rattle.house.proofs.Calling.{OpenSlot, open-told, slots-at, unfilled-within}
+use Rattle.house.proofs.Calling.{OpenSlot, open-told, slots-at, unfilled-within, lent-core}
 use Rattle.house.proofs.Calling.{told-within, told-rows, told-slots, told-rooms}
+use Rattle.house.proofs.Delivering.{granted-room}
 use Rattle.house.proofs.Reporting.{told-rises}
 
 -- ---- what makes a house sound
@@ -86,9 +96,9 @@ module _ (keys counts ks cs : List ℕ) where
   slots-same k (s ∷ ss) f e =
       rw (
         slot-same k s keys counts ks cs (f k (omega arith))
-        (both-left (slotSound k s keys counts) (slotsSound (suc k) ss keys counts) e),
+            (both-left (slotSound k s keys counts) (slotsSound (suc k) ss keys counts) e),
         slots-same (suc k) ss (λ j g. f j (omega (arith, g)))
-        (both-right (slotSound k s keys counts) (slotsSound (suc k) ss keys counts) e),
+            (both-right (slotSound k s keys counts) (slotsSound (suc k) ss keys counts) e),
       )
 
   slots-one : (k : ℕ) (slots : List Slot) (i : ℕ) (s : Slot)
@@ -101,15 +111,15 @@ module _ (keys counts ks cs : List ℕ) where
       rw (
         (rw (add-zero k) at right),
         slots-same (suc k) xs (λ j g. f j (λ q. omega (arith, g, q)))
-        (both-right (slotSound k x keys counts) (slotsSound (suc k) xs keys counts) e),
+            (both-right (slotSound k x keys counts) (slotsSound (suc k) xs keys counts) e),
       )
   slots-one k (x ∷ xs) (suc i) s f e right =
       let on : k + suc i ≡ suc k + i = omega arith in
       rw (
         slot-same k x keys counts ks cs (f k (λ q. omega (arith, q)))
-        (both-left (slotSound k x keys counts) (slotsSound (suc k) xs keys counts) e),
+            (both-left (slotSound k x keys counts) (slotsSound (suc k) xs keys counts) e),
         slots-one (suc k) xs i s (λ j g. f j (λ q. g (omega (arith, q))))
-        (both-right (slotSound k x keys counts) (slotsSound (suc k) xs keys counts) e) (rw on at right),
+            (both-right (slotSound k x keys counts) (slotsSound (suc k) xs keys counts) e) (rw on at right),
       )
 
 module _ (keys ks : List ℕ) where
@@ -179,10 +189,10 @@ module _ (h : House) (slot : ℕ) (shape : Shaped h) (e : sound h ≡ true) (ins
       let counts = countsOf h in
       let s = openedSlot floor in
       let shut-there : getD (takenOf (h .slots)) slot false ≡ false =
-          List·getD-map (λ (s : Slot). s .taken) (h .slots) slot noSlot ∙ shut in
+      List·getD-map (λ (s : Slot). s .taken) (h .slots) slot noSlot ∙ shut in
       let none = closed-none (takenOf (h .slots)) keys counts slot (told-right h e) shut-there in
       let right : OpenSlot slot s keys counts =
-          record { floor = low; session = begun-sound; few = omega arith; sum = none .1 } in
+      record { floor = low; session = begun-sound; few = omega arith; sum = none .1 } in
       sound-by (withSlot h slot s) (told-within h e) (told-rises h e)
       (rw (taken-set (h .slots) slot s) (right-open (takenOf (h .slots)) keys counts slot (told-right h e)))
       (slots-one keys counts keys counts 0 (h .slots) slot s (λ j g. refl) (told-slots h e)
@@ -211,7 +221,7 @@ module _ (h : House) (slot : ℕ) (shape : Shaped h) (e : sound h ≡ true) (ins
       (omega (
         arith,
         promised-one keys (keysUsed rows) 0 (h .slots) slot closedSlot there
-        (λ j g. dropped-held-other (h .keys) (h .counts) (h .used) slot j keys-kept (λ q. g (omega (arith, q)))),
+            (λ j g. dropped-held-other (h .keys) (h .counts) (h .used) slot j keys-kept (λ q. g (omega (arith, q)))),
         unfilled-most (0 + slot) closedSlot (keysUsed rows),
         told-rooms h e,
         fewer,
@@ -235,3 +245,255 @@ close-keeps h slot shape e =
     unless-keeps _ (ltb slot slotCount) _ e (λ inside.
     unless-keeps _ (slotAt h slot .taken) _ e (λ t.
     closed-sound h slot shape e (ltb-true slot slotCount inside) t)))
+
+-- ---- deliver
+
+-- what a slot's session becomes, its rows as they were
+abbrev withSession : Slot → Session → Slot
+withSession s ses = record { taken = s .taken; floor = s .floor; session = ses }
+
+-- a row's key: its slot, its head and its bin
+key-low : (key : ℕ) → key / 65536 < pastParts → key < 4_278_190_080
+key-low key h = omega (arith, h)
+
+key-slot : (slot key : ℕ) → key < 4_278_190_080 → slotOf (rowKey slot key) ≡ slot
+key-slot slot key h = omega (arith, h)
+
+key-head : (slot key : ℕ) → key < 4_278_190_080 → headOf (rowKey slot key) ≤ mostHead
+key-head slot key h = omega (arith, h)
+
+key-bin : (slot key : ℕ) → key % 65536 ≤ mostBin → binOf (rowKey slot key) ≤ mostBin
+key-bin slot key h = omega (arith, h)
+
+unfilled-open : (i : ℕ) (s : Slot) (keys : List ℕ) → s .taken ≡ true → unfilled i s keys ≡ s .floor - heldBy i keys
+unfolding unfilled
+unfilled-open i s keys t = rw t
+
+-- one row fewer is free: below the floor one fewer is promised too, else there was one that nobody is promised
+rooms-after : (floor n others all used left : ℕ) → others + (floor - n) ≡ all → all ≤ rowCount - used
+    → left + (floor - n) ≡ all + (floor - (1 + n))
+    → (ltb n floor || ltb (others + (floor - n)) (rowCount - used)) ≡ true → left ≤ rowCount - (used + 1)
+rooms-after floor n others all used left parted roomy is = go (ltb n floor) refl
+  where
+    go : (b : Bool) → ltb n floor ≡ b → (b || ltb (others + (floor - n)) (rowCount - used)) ≡ true
+        → left ≤ rowCount - (used + 1)
+    go true low f = omega (arith, ltb-true n floor low)
+    go false high f = omega (arith, ltb-false n floor high, ltb-true (others + (floor - n)) (rowCount - used) f)
+
+module _ (h : House) (slot : ℕ) (shape : Shaped h) (e : sound h ≡ true) (inside : slot < slotCount)
+    (t : slotAt h slot .taken ≡ true) where
+  abbrev s : Slot
+  s = slotAt h slot
+
+  abbrev keys : List ℕ
+  keys = keysOf h
+
+  abbrev counts : List ℕ
+  counts = countsOf h
+
+  told : OpenSlot slot s keys counts
+  told =
+      open-told slot s keys counts t
+      (rw (zero-add slot) at (slots-at 0 (h .slots) keys counts slot noSlot (told-slots h e) (there h slot shape e inside)))
+
+  -- a session that counts no part more keeps its rows
+  session-sound : (ses : Session) → session.sound ses ≡ true → ses .standing .results ≡ s .session .standing .results
+      → sound (withSlot h slot (withSession s ses)) ≡ true
+  session-sound ses fine same =
+      let next = withSession s ses in
+      let right : OpenSlot slot next keys counts =
+      record { floor = told .floor; session = fine; few = omega (arith, told .few, same); sum = told .sum ∙ sym same } in
+      sound-by (withSlot h slot next) (told-within h e) (told-rises h e)
+      (rw (map-set-same (λ (s : Slot). s .taken) (h .slots) slot next noSlot refl) (told-right h e))
+      (slots-one keys counts keys counts 0 (h .slots) slot next (λ j g. refl) (told-slots h e)
+      (rw (zero-add slot) (slot-right slot next keys counts t right)))
+      (omega (
+        arith,
+        promised-one keys keys 0 (h .slots) slot next (there h slot shape e inside) (λ j g. refl),
+        unfilled-open (0 + slot) next keys t,
+        unfilled-open (0 + slot) s keys t,
+        told-rooms h e,
+      ))
+
+  -- a part result that is granted: one part more under its key
+  module _ (key : ℕ) (right : (key / 65536 < pastParts) × (key % 65536 ≤ 32767))
+      (got : granted (roomOf h slot) keys (rowKey slot key) ≡ true) where
+    abbrev row : ℕ
+    row = rowKey slot key
+
+    abbrev rows : Rows
+    rows = counted (h .keys) (h .counts) (h .used) row
+
+    kept : Kept (h .keys) (h .counts) (h .used)
+    kept = keys-kept h slot shape e inside
+
+    lent : LentCore (roomOf h slot) (h .keys) (h .counts) (h .used) (s .session .standing) (s .session .parts)
+    lent = lent-core h slot e (shape .keys) (shape .counts) (shape .slots) inside t (shape .parts slot inside)
+
+    found : held row keys ≡ false → h .used < rowCount
+    found new = granted-room (roomOf h slot) (h .keys) (h .counts) (h .used) row (lent .rows) got new
+
+    room : held row keys ≡ false → h .used < length (h .keys)
+    room new = omega (arith, found new, shape .keys)
+
+    own : slotOf row ≡ slot
+    own = key-slot slot key (key-low key (right .0))
+
+    row-right : rowRight (takenOf (h .slots)) row 1 ≡ true
+    unfolding rowRight
+    row-right =
+        rw (
+          own,
+          lt-ltb slot slotCount inside,
+          List·getD-map (λ (s : Slot). s .taken) (h .slots) slot noSlot,
+          t,
+          le-leb (headOf row) mostHead (key-head slot key (key-low key (right .0))),
+          le-leb (binOf row) mostBin (key-bin slot key (right .1)),
+        )
+
+    other : (j : ℕ) → (j ≡ 0 + slot → ⊥) → eqb (slotOf row) j ≡ false
+    other j g = ne-eqb (slotOf row) j (λ q. g (omega (arith, q, own)))
+
+    sums : (j : ℕ) → (j ≡ 0 + slot → ⊥) → sumBy j (keysUsed rows) (countsUsed rows) ≡ sumBy j keys counts
+    sums j g =
+        let sum = counted-sum-by j (h .keys) (h .counts) (h .used) row kept room in
+        omega (arith, rw (other j g) at sum)
+
+    helds : (j : ℕ) → (j ≡ 0 + slot → ⊥) → heldBy j (keysUsed rows) ≡ heldBy j keys
+    helds j g =
+        let all = counted-held-by j (h .keys) (h .counts) (h .used) row kept room in
+        go (held row keys) (rw (other j g) at all)
+      where
+        go : (b : Bool) → heldBy j (keysUsed rows) ≡ cond b 0 0 + heldBy j keys → heldBy j (keysUsed rows) ≡ heldBy j keys
+        go true is = omega (arith, is)
+        go false is = omega (arith, is)
+
+    -- its own slot: one part more, and a row more where the key is new
+    own-sum : sumBy slot (keysUsed rows) (countsUsed rows) ≡ 1 + sumBy slot keys counts
+    own-sum =
+        let all = counted-sum-by slot (h .keys) (h .counts) (h .used) row kept room in
+        rw (eq-eqb (slotOf row) slot own) at all
+
+    own-held : heldBy slot (keysUsed rows) ≡ cond (held row keys) 0 1 + heldBy slot keys
+    own-held =
+        let all = counted-held-by slot (h .keys) (h .counts) (h .used) row kept room in
+        rw (eq-eqb (slotOf row) slot own) at all
+
+    -- what is promised to the others, and what is left of its own floor
+    parted : roomOf h slot .others + (s .floor - heldBy slot keys) ≡ promised h
+    parted =
+        let within = unfilled-within 0 (h .slots) keys slot noSlot (there h slot shape e inside) in
+        let part : unfilled slot s keys ≤ promised h = rw (zero-add slot) at within in
+        omega (arith, part, unfilled-open slot s keys t)
+
+    asked : held row keys ≡ false
+        → (ltb (heldBy slot keys) (s .floor)
+        || ltb (roomOf h slot .others + (s .floor - heldBy slot keys)) (rowCount - h .used)) ≡ true
+    unfolding granted
+    asked new =
+        let long = length-take-le (h .used) (h .keys) (omega (arith, shape .keys, told-within h e)) in
+        rw (new, long) at got
+
+    -- the rooms: a row that was free is promised to no other
+    rooms : (ses : Session)
+        → (rows .used ≤ rowCount)
+        × (promisedFrom 0 (set (h .slots) slot (withSession s ses)) (keysUsed rows) ≤ rowCount - rows .used)
+    rooms ses = go (held row keys) refl (counted-used (h .keys) (h .counts) (h .used) row) own-held
+      where
+        next : Slot
+        next = withSession s ses
+
+        all : promisedFrom 0 (set (h .slots) slot next) (keysUsed rows) + (s .floor - heldBy slot keys)
+            ≡ promised h + (s .floor - heldBy slot (keysUsed rows))
+        all =
+            let is = promised-one keys (keysUsed rows) 0 (h .slots) slot next (there h slot shape e inside) helds in
+            rw (
+              zero-add slot,
+              unfilled-open slot s keys t,
+              unfilled-open slot next (keysUsed rows) t,
+            ) at is
+
+        go : (b : Bool) → held row keys ≡ b → rows .used ≡ cond b (h .used) (h .used + 1)
+            → heldBy slot (keysUsed rows) ≡ cond b 0 1 + heldBy slot keys
+            → (rows .used ≤ rowCount)
+            × (promisedFrom 0 (set (h .slots) slot next) (keysUsed rows) ≤ rowCount - rows .used)
+        go true is used more =
+            (omega (arith, used, told-within h e), omega (arith, used, more, all, told-rooms h e))
+        go false is used more = (
+          omega (arith, used, found is),
+          omega (
+            arith,
+            used,
+            rooms-after (s .floor) (heldBy slot keys) (roomOf h slot .others) (promised h) (h .used)
+                (promisedFrom 0 (set (h .slots) slot next) (keysUsed rows)) parted (told-rooms h e) (rw more at all) (asked is),
+          ),
+        )
+
+    -- so the house is sound, with any session that counts one part more
+    result-sound : (ses : Session) → session.sound ses ≡ true → ses .standing .results ≤ mostResults
+        → ses .standing .results ≡ s .session .standing .results + 1
+        → sound
+        (record {
+          keys = rows .keys;
+          counts = rows .counts;
+          used = rows .used;
+          slots = set (h .slots) slot (withSession s ses);
+        })
+        ≡ true
+    result-sound ses fine few more =
+        let next = withSession s ses in
+        let opened : OpenSlot slot next (keysUsed rows) (countsUsed rows) =
+        record {
+          floor = told .floor;
+          session = fine;
+          few = few;
+          sum = omega (arith, own-sum, told .sum, more);
+        } in
+        sound-by _ (rooms ses .0) (counted-kept (h .keys) (h .counts) (h .used) row kept room .rises)
+        (rw (map-set-same (λ (s : Slot). s .taken) (h .slots) slot next noSlot refl)
+        (counted-right (takenOf (h .slots)) (h .keys) (h .counts) (h .used) row kept room (told-right h e) row-right))
+        (slots-one keys counts (keysUsed rows) (countsUsed rows) 0 (h .slots) slot next sums (told-slots h e)
+        (rw (zero-add slot) (slot-right slot next (keysUsed rows) (countsUsed rows) t opened)))
+        (rooms ses .1)
+
+  -- ---- any verdict
+
+  -- a part result: granted, or refused for room with nothing changed
+  wanted-sound : (st : Standing) (rank key : ℕ) → session.sound (after (s .session) (Wanted st rank key)) ≡ true
+      → after (s .session) (Wanted st rank key) .standing .results ≡ s .session .standing .results + 1
+      → after (s .session) (Wanted st rank key) .standing .results ≤ mostResults
+      → KeyRight (Wanted st rank key)
+      → (b : Bool) → granted (roomOf h slot) keys (rowKey slot key) ≡ b
+      → sound (withOutcome h slot (resultedIf (roomOf h slot) (h .keys) (h .counts) (h .used) (s .session .standing) (s .session .parts) st rank key) .house) ≡ true
+  unfolding resultedIf rowTaken after
+  wanted-sound st rank key fine more few right true got =
+      rw got (result-sound key right got (after (s .session) (Wanted st rank key)) fine few more)
+  wanted-sound st rank key fine more few right false got = rw got (session-sound (s .session) (told .session) refl)
+
+  abbrev ses : Session
+  ses = s .session
+
+  settled-sound : (v : Verdict) → session.sound (after ses v) ≡ true
+      → after ses v .standing .results ≡ ses .standing .results + verdict.counted v
+      → after ses v .standing .results ≤ mostResults → KeyRight v
+      → sound (withOutcome h slot (settled (roomOf h slot) (core (h .keys) (h .counts) (h .used) (ses .standing) (ses .parts)) v) .house) ≡ true
+  unfolding settled after
+  settled-sound (Refused a) fine more few right = session-sound ses (told .session) refl
+  settled-sound (Taken st) fine more few right = session-sound (after ses (Taken st)) fine (omega (arith, more))
+  settled-sound (Opened st rank part) fine more few right =
+      session-sound (after ses (Opened st rank part)) fine (omega (arith, more))
+  settled-sound (Wanted st rank key) fine more few right =
+      wanted-sound st rank key fine more few right (granted (roomOf h slot) keys (rowKey slot key)) refl
+
+pub deliver-keeps : DeliverKeeps
+unfolding deliver delivered
+deliver-keeps h slot rec bytes shape e =
+    unless-keeps _ (sound h) _ e (λ fine.
+    unless-keeps _ (ltb slot slotCount) _ e (λ there.
+    unless-keeps _ (slotAt h slot .taken) _ e (λ t.
+    let inside = ltb-true slot slotCount there in
+    let ses = slotAt h slot .session in
+    let open-there = told h slot shape e inside t in
+    settled-sound h slot shape e inside t (verdictOn ses rec)
+    (judged-sound ses rec bytes (shape .parts slot inside) (open-there .session)) (judged-counts ses rec)
+    (judged-few ses rec (open-there .few)) (judged-key ses rec bytes))))

@@ -68,7 +68,8 @@ pub fn row_at(house: House, slot: u32, i: usize) -> Row
 
 // Reports a slot. There is no branch: a refusal has no row to write.
 pub fn report(out: &mut [Row], house: House, slot: u32) -> Reported
-    ensures { λ r. ⌜ (r ≡ reported house slot (length (now (out .entry)))) × (now (out .exit) ≡ filled (rowAt house slot) (r .rows) (now (out .entry))) ⌝ }
+    ensures { λ r. ⌜ (r ≡ reported house slot (length (now (out .entry))))
+        × (now (out .exit) ≡ filled (rowAt house slot) (r .rows) (now (out .entry))) ⌝ }
 {
     let j = judge_report(house, slot, out.len());
     let mut i: usize = 0;

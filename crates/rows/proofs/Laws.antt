@@ -401,7 +401,7 @@ closed-none taken (k ∷ ks) [] s e shut = absurd (false≢true e)
 closed-none taken (k ∷ ks) (c ∷ cs) s e shut =
     let there = row-taken taken k c (right-head taken k c ks cs e) .1 in
     let other : slotOf k ≡ s → ⊥ =
-        λ q. false≢true (sym shut ∙ sym (ap (λ (j : ℕ). getD taken j false) q) ∙ there) in
+    λ q. false≢true (sym shut ∙ sym (ap (λ (j : ℕ). getD taken j false) q) ∙ there) in
     let rest = closed-none taken ks cs s (right-rest taken k c ks cs e) shut in (
       rw (ne-eqb (slotOf k) s other) (omega (arith, rest .0)),
       rw (ne-eqb (slotOf k) s other) (omega (arith, rest .1)),
