@@ -9,8 +9,8 @@ use native.Mathlib.Nat.{add-zero, zero-add}
 use native.Mathlib.Omega.{arith}
 use borrow.Author.Tests.{le-leb, lt-ltb, leb-true, ltb-true, ltb-false, eq-eqb, ne-eqb, not-true}
 use lib.Dec.{leb, ltb, eqb}
-use lib.ListN.{length, getD, take, set, List·getD-map}
-use lib.Seq.{map-set-same, length-take-le}
+use lib.ListN.{length, getD, take, set, replicate, length-set, List·getD-map}
+use lib.Seq.{map-set-same, length-take-le, getD-set-same, getD-set-other}
 use Rattle.words.specs.Choice.{_unless_then_}
 use Rattle.words.proofs.Both.{both-left, both-right}
 use Rattle.numbers.specs.Laws.{Bytes}
@@ -18,8 +18,8 @@ use Rattle.answers.specs.declared.Answer.{Answer}
 use Rattle.rising.specs.Rising.{rising, risingFrom, held}
 use Rattle.rows.specs.Rows.{slotCount, mostHead, mostBin, slotOf, headOf, binOf, rowKey, heldBy, sumBy}
 use Rattle.rows.specs.Rows.{rowRight, rowsRight, Kept, Rows, counted, slotDropped, keysUsed, countsUsed}
-use Rattle.rows.proofs.Laws.{closed-none, right-open}
-use Rattle.rows.proofs.Changes.{counted-used, counted-kept, counted-held-by, counted-sum-by, counted-right}
+use Rattle.rows.proofs.Laws.{same-or, closed-none, right-open}
+use Rattle.rows.proofs.Changes.{dropped-length, counted-length, counted-used, counted-kept, counted-held-by, counted-sum-by, counted-right}
 use Rattle.rows.proofs.Changes.{dropped-used, dropped-kept, dropped-held-other, dropped-sum-other, dropped-right}
 use Rattle.session.specs.declared.Session.{Session}
 use Rattle.session.specs.declared.Standing.{Standing}
@@ -30,7 +30,7 @@ use Rattle.session.specs.Laws.{KeyRight}
 use Rattle.session.specs.After.{after, verdictOn, partClosed}
 use Rattle.session.specs.Session as session
 use Rattle.session.specs.Session.{mostOpen, mostResults, pastParts, begun, nothingYet}
-use Rattle.session.proofs.Judgement.{begun-sound, judged-sound, judged-counts, judged-few, judged-key}
+use Rattle.session.proofs.Judgement.{begun-sound, judged-sound, judged-counts, judged-few, judged-key, judged-long}
 use Rattle.house.specs.declared.Slot.{Slot}
 use Rattle.house.specs.declared.House.{House}
 use Rattle.house.specs.declared.Answered.{Answered}
@@ -40,7 +40,9 @@ use Rattle.house.specs.Deliver.{Outcome, core, outcome, granted, rowed, 
 use Rattle.house.specs.Deliver.{delivered, LentCore}
 use Rattle.house.specs.Calls.{slotAt, withSlot, answered, openSlot, closed, closeSlot, roomOf, withOutcome}
 use Rattle.house.specs.Calls.{deliveredTo, deliver}
+use Rattle.house.specs.Laws as laws
 use Rattle.house.specs.Laws.{Shaped, FreshSound, OpenKeeps, CloseKeeps, DeliverKeeps}
+use Rattle.house.specs.Laws.{Call, Open, Deliver, Close, reached, Sent, AllSent, ReachedSound}
 use Rattle.house.proofs.Calling.{OpenSlot, open-told, slots-at, unfilled-within, lent-core}
 use Rattle.house.proofs.Calling.{told-within, told-rows, told-slots, told-rooms}
 use Rattle.house.proofs.Delivering.{granted-room}
@@ -164,11 +166,15 @@ fresh-sound = refl
 
 -- ---- open
 
--- a check that refuses leaves the house as it was
+-- a check that refuses leaves the house as it was, and so what is known of it
+unless-by : (P : House → Type 0) (a : Answered) (t : Bool) (b : Answered) → P (a .house) → (t ≡ true → P (b .house))
+    → P ((a unless t then b) .house)
+unless-by P a true b kept f = f refl
+unless-by P a false b kept f = kept
+
 unless-keeps : (a : Answered) (t : Bool) (b : Answered) → sound (a .house) ≡ true → (t ≡ true → sound (b .house) ≡ true)
     → sound ((a unless t then b) .house) ≡ true
-unless-keeps a true b kept f = f refl
-unless-keeps a false b kept f = kept
+unless-keeps = unless-by (λ (h : House). sound h ≡ true)
 
 module _ (h : House) (slot : ℕ) (shape : Shaped h) (e : sound h ≡ true) (inside : slot < slotCount) where
   keys-kept : Kept (h .keys) (h .counts) (h .used)
@@ -294,7 +300,8 @@ module _ (h : House) (slot : ℕ) (shape : Shaped h) (e : sound h ≡ true) (ins
   told : OpenSlot slot s keys counts
   told =
       open-told slot s keys counts t
-      (rw (zero-add slot) at (slots-at 0 (h .slots) keys counts slot noSlot (told-slots h e) (there h slot shape e inside)))
+      (rw (zero-add slot) at
+      (slots-at 0 (h .slots) keys counts slot noSlot (told-slots h e) (there h slot shape e inside)))
 
   -- a session that counts no part more keeps its rows
   session-sound : (ses : Session) → session.sound ses ≡ true → ses .standing .results ≡ s .session .standing .results
@@ -302,7 +309,12 @@ module _ (h : House) (slot : ℕ) (shape : Shaped h) (e : sound h ≡ true) (ins
   session-sound ses fine same =
       let next = withSession s ses in
       let right : OpenSlot slot next keys counts =
-      record { floor = told .floor; session = fine; few = omega (arith, told .few, same); sum = told .sum ∙ sym same } in
+      record {
+        floor = told .floor;
+        session = fine;
+        few = omega (arith, told .few, same);
+        sum = told .sum ∙ sym same;
+      } in
       sound-by (withSlot h slot next) (told-within h e) (told-rises h e)
       (rw (map-set-same (λ (s : Slot). s .taken) (h .slots) slot next noSlot refl) (told-right h e))
       (slots-one keys counts keys counts 0 (h .slots) slot next (λ j g. refl) (told-slots h e)
@@ -364,7 +376,8 @@ module _ (h : House) (slot : ℕ) (shape : Shaped h) (e : sound h ≡ true) (ins
         let all = counted-held-by j (h .keys) (h .counts) (h .used) row kept room in
         go (held row keys) (rw (other j g) at all)
       where
-        go : (b : Bool) → heldBy j (keysUsed rows) ≡ cond b 0 0 + heldBy j keys → heldBy j (keysUsed rows) ≡ heldBy j keys
+        go : (b : Bool) → heldBy j (keysUsed rows) ≡ cond b 0 0 + heldBy j keys
+            → heldBy j (keysUsed rows) ≡ heldBy j keys
         go true is = omega (arith, is)
         go false is = omega (arith, is)
 
@@ -425,7 +438,8 @@ module _ (h : House) (slot : ℕ) (shape : Shaped h) (e : sound h ≡ true) (ins
             arith,
             used,
             rooms-after (s .floor) (heldBy slot keys) (roomOf h slot .others) (promised h) (h .used)
-                (promisedFrom 0 (set (h .slots) slot next) (keysUsed rows)) parted (told-rooms h e) (rw more at all) (asked is),
+                (promisedFrom 0 (set (h .slots) slot next) (keysUsed rows)) parted (told-rooms h e)
+                (rw more at all) (asked is),
           ),
         )
 
@@ -464,7 +478,11 @@ module _ (h : House) (slot : ℕ) (shape : Shaped h) (e : sound h ≡ true) (ins
       → after (s .session) (Wanted st rank key) .standing .results ≤ mostResults
       → KeyRight (Wanted st rank key)
       → (b : Bool) → granted (roomOf h slot) keys (rowKey slot key) ≡ b
-      → sound (withOutcome h slot (resultedIf (roomOf h slot) (h .keys) (h .counts) (h .used) (s .session .standing) (s .session .parts) st rank key) .house) ≡ true
+      → sound
+      (withOutcome h slot
+      (resultedIf (roomOf h slot) (h .keys) (h .counts) (h .used) (s .session .standing) (s .session .parts) st rank key)
+      .house)
+      ≡ true
   unfolding resultedIf rowTaken after
   wanted-sound st rank key fine more few right true got =
       rw got (result-sound key right got (after (s .session) (Wanted st rank key)) fine few more)
@@ -476,7 +494,11 @@ module _ (h : House) (slot : ℕ) (shape : Shaped h) (e : sound h ≡ true) (ins
   settled-sound : (v : Verdict) → session.sound (after ses v) ≡ true
       → after ses v .standing .results ≡ ses .standing .results + verdict.counted v
       → after ses v .standing .results ≤ mostResults → KeyRight v
-      → sound (withOutcome h slot (settled (roomOf h slot) (core (h .keys) (h .counts) (h .used) (ses .standing) (ses .parts)) v) .house) ≡ true
+      → sound
+      (withOutcome h slot
+      (settled (roomOf h slot) (core (h .keys) (h .counts) (h .used) (ses .standing) (ses .parts)) v)
+      .house)
+      ≡ true
   unfolding settled after
   settled-sound (Refused a) fine more few right = session-sound ses (told .session) refl
   settled-sound (Taken st) fine more few right = session-sound (after ses (Taken st)) fine (omega (arith, more))
@@ -497,3 +519,126 @@ deliver-keeps h slot rec bytes shape e =
     settled-sound h slot shape e inside t (verdictOn ses rec)
     (judged-sound ses rec bytes (shape .parts slot inside) (open-there .session)) (judged-counts ses rec)
     (judged-few ses rec (open-there .few)) (judged-key ses rec bytes))))
+
+-- ---- the shape of a house
+
+fresh-shaped : Shaped fresh
+fresh-shaped = record { keys = refl; counts = refl; slots = refl; parts = closed-at slotCount }
+  where
+    closed-at : (n i : ℕ) → i < n → length (getD (replicate n closedSlot) i noSlot .session .parts) ≡ mostOpen
+    closed-at zero i h = absurd (omega arith)
+    closed-at (suc n) zero h = refl
+    closed-at (suc n) (suc i) h = closed-at n i (omega arith)
+
+-- other rows, as many, and another slot with as many parts
+shaped-by : (h : House) (ks cs : List ℕ) (n slot : ℕ) (s : Slot) → Shaped h → length ks ≡ rowCount → length cs ≡ rowCount
+    → length (s .session .parts) ≡ mostOpen → slot < slotCount
+    → Shaped (record { keys = ks; counts = cs; used = n; slots = set (h .slots) slot s })
+shaped-by h ks cs n slot s shape long paired cells there =
+    record {
+      keys = long;
+      counts = paired;
+      slots = length-set (h .slots) slot s ∙ shape .slots;
+      parts = λ i inside.
+          same-or i slot (λ q. rw (q, getD-set-same (h .slots) slot s noSlot (omega (arith, there, shape .slots))) cells)
+          (λ ne. rw (getD-set-other (h .slots) slot i s noSlot ne) (shape .parts i inside));
+    }
+
+open-shaped : (h : House) (slot floor : ℕ) → Shaped h → Shaped (openSlot h slot floor .house)
+unfolding openSlot
+open-shaped h slot floor shape =
+    unless-by Shaped _ (sound h) _ shape (λ fine.
+    unless-by Shaped _ (ltb slot slotCount) _ shape (λ inside.
+    unless-by Shaped _ (leb floor rowCount) _ shape (λ low.
+    unless-by Shaped _ (not (slotAt h slot .taken)) _ shape (λ shut.
+    unless-by Shaped _ (leb floor (free h - promised h)) _ shape (λ room.
+    shaped-by h (h .keys) (h .counts) (h .used) slot (openedSlot floor) shape (shape .keys) (shape .counts) refl
+    (ltb-true slot slotCount inside))))))
+
+close-shaped : (h : House) (slot : ℕ) → Shaped h → Shaped (closeSlot h slot .house)
+unfolding closeSlot
+close-shaped h slot shape =
+    unless-by Shaped _ (sound h) _ shape (λ fine.
+    unless-by Shaped _ (ltb slot slotCount) _ shape (λ there.
+    unless-by Shaped _ (slotAt h slot .taken) _ shape (λ t.
+    let inside = ltb-true slot slotCount there in
+    let kept = keys-kept h slot shape fine inside in
+    let rows = slotDropped (h .keys) (h .counts) (h .used) slot in
+    let long = dropped-length (h .keys) (h .counts) (h .used) slot kept ∙ shape .keys in
+    shaped-by h (rows .keys) (rows .counts) (rows .used) slot closedSlot shape long
+    (dropped-kept (h .keys) (h .counts) (h .used) slot kept .paired ∙ long) refl inside)))
+
+module _ (h : House) (slot : ℕ) (shape : Shaped h) (e : sound h ≡ true) (inside : slot < slotCount)
+    (t : slotAt h slot .taken ≡ true) where
+  -- a session with as many cells, the rows as they were
+  session-shaped : (ses : Session) → length (ses .parts) ≡ mostOpen
+      → Shaped (withSlot h slot (withSession (slotAt h slot) ses))
+  session-shaped ses cells =
+      shaped-by h (h .keys) (h .counts) (h .used) slot (withSession (slotAt h slot) ses) shape (shape .keys)
+      (shape .counts) cells inside
+
+  abbrev current : Session
+  current = slotAt h slot .session
+
+  wanted-shaped : (st : Standing) (rank key : ℕ) → length (after current (Wanted st rank key) .parts) ≡ mostOpen
+      → KeyRight (Wanted st rank key) → (b : Bool) → granted (roomOf h slot) (keysOf h) (rowKey slot key) ≡ b
+      → Shaped
+      (withOutcome h slot
+      (resultedIf (roomOf h slot) (h .keys) (h .counts) (h .used) (current .standing) (current .parts) st rank key)
+      .house)
+  unfolding resultedIf rowTaken after
+  wanted-shaped st rank key cells right true got =
+      let rows = counted (h .keys) (h .counts) (h .used) (rowKey slot key) in
+      let kept = keys-kept h slot shape e inside in
+      let room = room h slot shape e inside t key right got in
+      let long = counted-length (h .keys) (h .counts) (h .used) (rowKey slot key) kept room ∙ shape .keys in
+      rw got
+      (shaped-by h (rows .keys) (rows .counts) (rows .used) slot
+      (withSession (slotAt h slot) (after current (Wanted st rank key))) shape long
+      (counted-kept (h .keys) (h .counts) (h .used) (rowKey slot key) kept room .paired ∙ long) cells inside)
+  wanted-shaped st rank key cells right false got = rw got (session-shaped current (shape .parts slot inside))
+
+  settled-shaped : (v : Verdict) → length (after current v .parts) ≡ mostOpen → KeyRight v
+      → Shaped
+      (withOutcome h slot
+      (settled (roomOf h slot) (core (h .keys) (h .counts) (h .used) (current .standing) (current .parts)) v)
+      .house)
+  unfolding settled after
+  settled-shaped (Refused a) cells right = session-shaped current cells
+  settled-shaped (Taken st) cells right = session-shaped (after current (Taken st)) cells
+  settled-shaped (Opened st rank part) cells right = session-shaped (after current (Opened st rank part)) cells
+  settled-shaped (Wanted st rank key) cells right =
+      wanted-shaped st rank key cells right (granted (roomOf h slot) (keysOf h) (rowKey slot key)) refl
+
+deliver-shaped : (h : House) (slot : ℕ) (rec : List ℕ) → Bytes rec → Shaped h → Shaped (deliver h slot rec .house)
+unfolding deliver delivered
+deliver-shaped h slot rec bytes shape =
+    unless-by Shaped _ (sound h) _ shape (λ fine.
+    unless-by Shaped _ (ltb slot slotCount) _ shape (λ there.
+    unless-by Shaped _ (slotAt h slot .taken) _ shape (λ t.
+    let inside = ltb-true slot slotCount there in
+    let ses = slotAt h slot .session in
+    settled-shaped h slot shape fine inside t (verdictOn ses rec)
+    (judged-long ses rec (shape .parts slot inside) (told h slot shape fine inside t .session))
+    (judged-key ses rec bytes))))
+
+-- ---- any sequence of calls
+
+after-keeps : (h : House) (c : Call) → Sent c → Shaped h → sound h ≡ true → sound (laws.after h c) ≡ true
+after-keeps h (Open slot floor) sent shape e = open-keeps h slot floor shape e
+after-keeps h (Deliver slot rec) sent shape e = deliver-keeps h slot rec sent shape e
+after-keeps h (Close slot) sent shape e = close-keeps h slot shape e
+
+after-shaped : (h : House) (c : Call) → Sent c → Shaped h → Shaped (laws.after h c)
+after-shaped h (Open slot floor) sent shape = open-shaped h slot floor shape
+after-shaped h (Deliver slot rec) sent shape = deliver-shaped h slot rec sent shape
+after-shaped h (Close slot) sent shape = close-shaped h slot shape
+
+reached-keeps : (h : House) (calls : List Call) → AllSent calls → Shaped h → sound h ≡ true
+    → sound (reached h calls) ≡ true
+reached-keeps h [] sent shape e = e
+reached-keeps h (c ∷ cs) sent shape e =
+    reached-keeps (laws.after h c) cs (sent .1) (after-shaped h c (sent .0) shape) (after-keeps h c (sent .0) shape e)
+
+pub reached-sound : ReachedSound
+reached-sound calls sent = reached-keeps fresh calls sent fresh-shaped fresh-sound

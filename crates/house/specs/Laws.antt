@@ -1,10 +1,12 @@
 -- What is shown of a house: statements only. Each is proved in proofs/Keeping.antt, under its name in small letters.
 -- Document 01, "The house, its slots and its rows": "Every house reached from a fresh one is sound".
---   Shaped   what its type says of a house: how long its arrays are
+--   Shaped          what its type says of a house: how long its arrays are
+--   Call, after     a call that may change a house, and the house after it
+--   reached         the house after any sequence of calls
 -- Assumes nothing.
 use mathlib.Core.Path.{_≡_}
 use mathlib.Core.Bool.{true}
-use mathlib.Core.List.{List}
+use mathlib.Core.List.{List, [], _∷_}
 use Prim.Native.Nat.{ℕ, _<_}
 use lib.ListN.{length}
 use Rattle.numbers.specs.Laws.{Bytes}
@@ -34,3 +36,34 @@ CloseKeeps = (h : House) (slot : ℕ) → Shaped h → sound h ≡ true → soun
 abbrev pub DeliverKeeps : Type 0
 DeliverKeeps = (h : House) (slot : ℕ) (rec : List ℕ) → Bytes rec → Shaped h → sound h ≡ true
     → sound (deliver h slot rec .house) ≡ true
+
+-- ---- any sequence of calls
+
+-- report and figures give no house back, so they change none
+pub data Call : Type 0 where
+  Open : ℕ → ℕ → Call
+  Deliver : ℕ → List ℕ → Call
+  Close : ℕ → Call
+
+abbrev pub after : House → Call → House
+after h (Open slot floor) = openSlot h slot floor .house
+after h (Deliver slot rec) = deliver h slot rec .house
+after h (Close slot) = closeSlot h slot .house
+
+abbrev pub reached : House → List Call → House
+reached h [] = h
+reached h (c ∷ cs) = reached (after h c) cs
+
+-- what is delivered is bytes
+abbrev pub Sent : Call → Type 0
+Sent (Open slot floor) = Unit
+Sent (Deliver slot rec) = Bytes rec
+Sent (Close slot) = Unit
+
+abbrev pub AllSent : List Call → Type 0
+AllSent [] = Unit
+AllSent (c ∷ cs) = Sent c × AllSent cs
+
+-- every house reached from a fresh one is sound
+abbrev pub ReachedSound : Type 0
+ReachedSound = (calls : List Call) → AllSent calls → sound (reached fresh calls) ≡ true
