@@ -14,12 +14,13 @@ use lib.Seq.{map-set-same, length-take-le, getD-set-same, getD-set-other}
 use Rattle.words.specs.Choice.{_unless_then_}
 use Rattle.words.proofs.Both.{both-left, both-right}
 use Rattle.numbers.specs.Laws.{Bytes}
-use Rattle.answers.specs.declared.Answer.{Answer}
+use Rattle.answers.specs.declared.Answer.the-variants.{Done}
 use Rattle.rising.specs.Rising.{rising, risingFrom, held}
 use Rattle.rows.specs.Rows.{slotCount, mostHead, mostBin, slotOf, headOf, binOf, rowKey, heldBy, sumBy}
 use Rattle.rows.specs.Rows.{rowRight, rowsRight, Kept, Rows, counted, slotDropped, keysUsed, countsUsed}
 use Rattle.rows.proofs.Laws.{same-or, closed-none, right-open}
-use Rattle.rows.proofs.Changes.{dropped-length, counted-length, counted-used, counted-kept, counted-held-by, counted-sum-by, counted-right}
+use Rattle.rows.proofs.Changes.{counted-length, counted-used, counted-kept, counted-held-by, counted-sum-by}
+use Rattle.rows.proofs.Changes.{counted-right, dropped-length}
 use Rattle.rows.proofs.Changes.{dropped-used, dropped-kept, dropped-held-other, dropped-sum-other, dropped-right}
 use Rattle.session.specs.declared.Session.{Session}
 use Rattle.session.specs.declared.Standing.{Standing}
@@ -41,7 +42,7 @@ use Rattle.house.specs.Deliver.{delivered, LentCore}
 use Rattle.house.specs.Calls.{slotAt, withSlot, answered, openSlot, closed, closeSlot, roomOf, withOutcome}
 use Rattle.house.specs.Calls.{deliveredTo, deliver}
 use Rattle.house.specs.Laws as laws
-use Rattle.house.specs.Laws.{Shaped, FreshSound, OpenKeeps, CloseKeeps, DeliverKeeps}
+use Rattle.house.specs.Laws.{Shaped, FreshSound, OpenKeeps, CloseKeeps, DeliverKeeps, BelowFloor}
 use Rattle.house.specs.Laws.{Call, Open, Deliver, Close, reached, Sent, AllSent, ReachedSound}
 use Rattle.house.proofs.Calling.{OpenSlot, open-told, slots-at, unfilled-within, lent-core}
 use Rattle.house.proofs.Calling.{told-within, told-rows, told-slots, told-rooms}
@@ -480,7 +481,8 @@ module _ (h : House) (slot : ℕ) (shape : Shaped h) (e : sound h ≡ true) (ins
       → (b : Bool) → granted (roomOf h slot) keys (rowKey slot key) ≡ b
       → sound
       (withOutcome h slot
-      (resultedIf (roomOf h slot) (h .keys) (h .counts) (h .used) (s .session .standing) (s .session .parts) st rank key)
+      (resultedIf (roomOf h slot) (h .keys) (h .counts) (h .used) (s .session .standing) (s .session .parts) st rank
+      key)
       .house)
       ≡ true
   unfolding resultedIf rowTaken after
@@ -520,6 +522,18 @@ deliver-keeps h slot rec bytes shape e =
     (judged-sound ses rec bytes (shape .parts slot inside) (open-there .session)) (judged-counts ses rec)
     (judged-few ses rec (open-there .few)) (judged-key ses rec bytes))))
 
+-- ---- below its floor
+
+pub below-floor : BelowFloor
+unfolding deliver delivered settled resultedIf rowTaken granted
+below-floor h slot rec st rank key e inside t asks low =
+    go (held (rowKey slot key) (keysOf h)) refl
+  where
+    go : (b : Bool) → held (rowKey slot key) (keysOf h) ≡ b → deliver h slot rec .answer ≡ Done
+    go true is = rw (e, lt-ltb slot slotCount inside, t, asks, is)
+    go false is =
+        rw (e, lt-ltb slot slotCount inside, t, asks, is, lt-ltb (heldBy slot (keysOf h)) (slotAt h slot .floor) low)
+
 -- ---- the shape of a house
 
 fresh-shaped : Shaped fresh
@@ -531,8 +545,8 @@ fresh-shaped = record { keys = refl; counts = refl; slots = refl; parts = closed
     closed-at (suc n) (suc i) h = closed-at n i (omega arith)
 
 -- other rows, as many, and another slot with as many parts
-shaped-by : (h : House) (ks cs : List ℕ) (n slot : ℕ) (s : Slot) → Shaped h → length ks ≡ rowCount → length cs ≡ rowCount
-    → length (s .session .parts) ≡ mostOpen → slot < slotCount
+shaped-by : (h : House) (ks cs : List ℕ) (n slot : ℕ) (s : Slot) → Shaped h → length ks ≡ rowCount
+    → length cs ≡ rowCount → length (s .session .parts) ≡ mostOpen → slot < slotCount
     → Shaped (record { keys = ks; counts = cs; used = n; slots = set (h .slots) slot s })
 shaped-by h ks cs n slot s shape long paired cells there =
     record {
@@ -540,7 +554,8 @@ shaped-by h ks cs n slot s shape long paired cells there =
       counts = paired;
       slots = length-set (h .slots) slot s ∙ shape .slots;
       parts = λ i inside.
-          same-or i slot (λ q. rw (q, getD-set-same (h .slots) slot s noSlot (omega (arith, there, shape .slots))) cells)
+          same-or i slot
+          (λ q. rw (q, getD-set-same (h .slots) slot s noSlot (omega (arith, there, shape .slots))) cells)
           (λ ne. rw (getD-set-other (h .slots) slot i s noSlot ne) (shape .parts i inside));
     }
 

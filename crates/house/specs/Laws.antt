@@ -10,10 +10,14 @@ use mathlib.Core.List.{List, [], _∷_}
 use Prim.Native.Nat.{ℕ, _<_}
 use lib.ListN.{length}
 use Rattle.numbers.specs.Laws.{Bytes}
-use Rattle.rows.specs.Rows.{slotCount}
+use Rattle.answers.specs.declared.Answer.the-variants.{Done}
+use Rattle.rows.specs.Rows.{slotCount, heldBy}
+use Rattle.session.specs.declared.Standing.{Standing}
+use Rattle.session.specs.declared.Verdict.the-variants.{Wanted}
 use Rattle.session.specs.Session.{mostOpen}
+use Rattle.session.specs.After.{verdictOn}
 use Rattle.house.specs.declared.House.{House}
-use Rattle.house.specs.House.{rowCount, fresh, sound}
+use Rattle.house.specs.House.{rowCount, fresh, keysOf, sound}
 use Rattle.house.specs.Calls.{slotAt, openSlot, closeSlot, deliver}
 
 pub record Shaped (h : House) : Type 0 where
@@ -36,6 +40,12 @@ CloseKeeps = (h : House) (slot : ℕ) → Shaped h → sound h ≡ true → soun
 abbrev pub DeliverKeeps : Type 0
 DeliverKeeps = (h : House) (slot : ℕ) (rec : List ℕ) → Bytes rec → Shaped h → sound h ≡ true
     → sound (deliver h slot rec .house) ≡ true
+
+-- a session below its floor is not refused for room: a part result that passes all other checks is accepted
+abbrev pub BelowFloor : Type 0
+BelowFloor = (h : House) (slot : ℕ) (rec : List ℕ) (st : Standing) (rank key : ℕ) → sound h ≡ true → slot < slotCount
+    → slotAt h slot .taken ≡ true → verdictOn (slotAt h slot .session) rec ≡ Wanted st rank key
+    → heldBy slot (keysOf h) < slotAt h slot .floor → deliver h slot rec .answer ≡ Done
 
 -- ---- any sequence of calls
 
