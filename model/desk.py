@@ -1,0 +1,263 @@
+#!/usr/bin/env python3
+"""The desk once more, written from document 01 alone and with other means: sets and dictionaries, no proofs.
+
+    python3 model/desk.py < crates/desk/stdin | diff - crates/desk/stdout
+
+It shares no code with the crates. Where it and the desk differ, one of them misreads document 01.
+"""
+import re
+import sys
+
+SLOTS, ROWS, MOST_PARTS, MOST_RESULTS, MOST_BIN = 16, 1024, 32, 4294967295, 32767
+LONGEST_LINE = 140000
+COUNTED = "n"  # a C*n or B*n field: its first byte tells its length
+
+# the fields of each body that is read: required, then optional
+BODIES = {
+    "MIR": ([4, 4, 1, 1, 1, 1, 2, 1] + [COUNTED] * 5, [COUNTED] * 25),
+    "MRR": ([4], [1, COUNTED, COUNTED]),
+    "PCR": ([1, 1, 4], [4] * 4),
+    "HBR": ([1, 1, 2, 4], [1, COUNTED]),
+    "SBR": ([1, 1, 2, 4], [1, COUNTED]),
+    "PIR": ([1, 1], []),
+    "PRR": ([1, 1, 1, 2, 2], [2, 2, 2, 4, COUNTED, COUNTED, COUNTED]),
+}
+
+PAIRS = {
+    0: {10: "FAR", 20: "ATR"},
+    1: {10: "MIR", 20: "MRR", 30: "PCR", 40: "HBR", 50: "SBR", 60: "PMR", 62: "PGR", 63: "PLR", 70: "RDR", 80: "SDR"},
+    2: {10: "WIR", 20: "WRR", 30: "WCR"},
+    5: {10: "PIR", 20: "PRR"},
+    10: {30: "TSR"},
+    15: {10: "PTR", 15: "MPR", 20: "FTR"},
+    20: {10: "BPS", 20: "EPS"},
+    50: {10: "GDR", 30: "DTR"},
+}
+
+
+def kind_of(typ, sub):
+    """The kind of a pair, "custom", or None where it is unknown."""
+    if sub in PAIRS.get(typ, {}):
+        return PAIRS[typ][sub]
+    return "custom" if typ > 200 or (typ in PAIRS and sub > 200) else None
+
+
+def field_count(body, required, optional):
+    """How many fields a body has, or None where it is no such body."""
+    at = 0
+    for n, size in enumerate(required + optional):
+        if n >= len(required) and at == len(body):
+            return n
+        if size == COUNTED:
+            if at >= len(body):
+                return None
+            size = 1 + body[at]
+        at += size
+        if at > len(body):
+            return None
+    return len(required + optional) if at == len(body) else None
+
+
+def body_fits(kind, body, order):
+    """The table of bodies, and the value rules."""
+    if kind not in BODIES:
+        return True
+    fields = field_count(body, *BODIES[kind])
+    if fields is None:
+        return False
+    number = lambda a, b: int.from_bytes(body[a:b], order)
+    if kind in ("HBR", "SBR"):
+        return number(2, 4) <= MOST_BIN and (fields < 5 or body[8:9] in (b"P", b"F", b" "))
+    if kind == "PIR":
+        return body[0] != 255
+    if kind == "PRR":
+        soft = fields < 6 or number(7, 9) <= MOST_BIN or number(7, 9) == 65535
+        return body[0] != 255 and body[2] & 3 != 3 and number(5, 7) <= MOST_BIN and soft
+    return True
+
+
+def place_after(place, kind):
+    """The order of a stream: the next place, or None where the kind is out of place."""
+    if place == "far":
+        return {"ATR": "far", "MIR": "mir"}.get(kind)
+    if place == "end" or kind in ("FAR", "ATR", "MIR"):
+        return None
+    if kind == "RDR":
+        return "rdr" if place == "mir" else None
+    if kind == "SDR":
+        return "sdr" if place != "body" else None
+    return "end" if kind == "MRR" else "body"
+
+
+class Session:
+    def __init__(self, floor):
+        self.floor, self.place, self.order = floor, "start", "little"
+        self.parts, self.pcr, self.results, self.rows = set(), False, 0, {}
+
+    def first(self, rec):
+        if len(rec) < 4:
+            return 3
+        if (rec[2], rec[3]) != (0, 10):
+            return 8
+        if len(rec) != 6:
+            return 3
+        if rec[4] not in (1, 2):
+            return 4
+        order = "big" if rec[4] == 1 else "little"
+        if int.from_bytes(rec[:2], order) != 2:
+            return 3
+        if rec[5] != 4:
+            return 5
+        self.order, self.place = order, "far"
+        return 0
+
+    def later(self, rec, spare):
+        if len(rec) < 4 or int.from_bytes(rec[:2], self.order) != len(rec) - 4:
+            return 3
+        kind, body = kind_of(rec[2], rec[3]), rec[4:]
+        if kind is None:
+            return 6
+        place = place_after(self.place, kind)
+        if place is None:
+            return 8
+        if not body_fits(kind, body, self.order):
+            return 7
+        answer = 0
+        if kind == "PIR":
+            answer = self.opens((body[0], body[1]))
+        elif kind == "PRR":
+            answer = self.closes((body[0], body[1]), int.from_bytes(body[5:7], self.order), spare)
+        elif kind == "MRR" and (self.parts or not self.pcr):
+            answer = 12
+        if answer == 0:
+            self.place, self.pcr = place, self.pcr or kind == "PCR"
+        return answer
+
+    def opens(self, part):
+        if part in self.parts:
+            return 9
+        if len(self.parts) == MOST_PARTS:
+            return 11
+        self.parts.add(part)
+        return 0
+
+    def closes(self, part, bin_number, spare):
+        key = part + (bin_number,)
+        if part not in self.parts:
+            return 10
+        if self.results == MOST_RESULTS:
+            return 14
+        if key not in self.rows and len(self.rows) >= self.floor and not spare:
+            return 13
+        self.rows[key] = self.rows.get(key, 0) + 1
+        self.results += 1
+        self.parts.discard(part)
+        return 0
+
+
+class House:
+    def __init__(self):
+        self.slots = [None] * SLOTS
+
+    def sessions(self):
+        return [s for s in self.slots if s]
+
+    def free(self):
+        return ROWS - sum(len(s.rows) for s in self.sessions())
+
+    def promised(self):
+        return sum(max(0, s.floor - len(s.rows)) for s in self.sessions())
+
+    def missing(self, slot):
+        """1 and 2, of a call that needs an open slot."""
+        return 1 if slot >= SLOTS else 0 if self.slots[slot] else 2
+
+    def open(self, slot, floor):
+        if slot >= SLOTS:
+            return 1
+        if floor > ROWS:
+            return 16
+        if self.slots[slot]:
+            return 2
+        if floor > self.free() - self.promised():
+            return 13
+        self.slots[slot] = Session(floor)
+        return 0
+
+    def close(self, slot):
+        refused = self.missing(slot)
+        if not refused:
+            self.slots[slot] = None
+        return refused
+
+    def deliver(self, slot, rec):
+        refused = self.missing(slot)
+        if refused:
+            return refused
+        session = self.slots[slot]
+        if session.place == "start":
+            return session.first(rec)
+        return session.later(rec, self.free() > self.promised())
+
+    def report(self, slot, length):
+        refused = self.missing(slot)
+        if refused:
+            return refused
+        rows = sorted(self.slots[slot].rows.items())
+        if length < len(rows):
+            return 17
+        return " ".join([f"0 {len(rows)}"] + ["%d/%d/%d=%d" % (key + (count,)) for key, count in rows])
+
+
+def number(word):
+    if not re.fullmatch(rb"[0-9]{1,10}", word) or int(word) > 4294967295:
+        raise ValueError
+    return int(word)
+
+
+def hex_bytes(word):
+    if word == b"-":
+        return b""
+    if not re.fullmatch(rb"([0-9a-f]{2})+", word):
+        raise ValueError
+    return bytes.fromhex(word.decode())
+
+
+def answer(house, words):
+    """What a call answers; a ValueError where the words are no call."""
+    name, given = words[0], words[1:]
+    if name == b"figures" and not given:
+        return f"0 {house.free()} {house.promised()}"
+    if name == b"close" and len(given) == 1:
+        return house.close(number(given[0]))
+    if name == b"open" and len(given) == 2:
+        return house.open(number(given[0]), number(given[1]))
+    if name == b"report" and len(given) == 2:
+        return house.report(number(given[0]), number(given[1]))
+    if name == b"deliver" and len(given) == 2:
+        return house.deliver(number(given[0]), hex_bytes(given[1]))
+    raise ValueError
+
+
+def main():
+    house = House()
+    lines = sys.stdin.buffer.read().split(b"\n")
+    if lines[-1] == b"":
+        lines.pop()
+    for line in lines:
+        if len(line) <= LONGEST_LINE and (line == b"" or line.startswith(b"#")):
+            said = line
+        elif line == b"fresh":
+            house, said = House(), b"0"
+        else:
+            try:
+                if len(line) > LONGEST_LINE:
+                    raise ValueError
+                said = str(answer(house, line.split(b" "))).encode()
+            except ValueError:
+                said = b"?"
+        sys.stdout.buffer.write(said + b"\n")
+
+
+if __name__ == "__main__":
+    main()
