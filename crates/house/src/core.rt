@@ -48,7 +48,8 @@ fn is_granted(keys: &[u64], used: usize, room: Room, at: usize, key: u64) -> boo
 // Counts a part under its key, if it is granted.
 fn take_row(keys: &mut [u64], counts: &mut [u64], used: usize, room: Room, key: u64) -> Granting
     requires { ⌜ LentRows room (now keys) (now counts) used ⌝ }
-    ensures { λ r. ⌜ rowed (now (keys .exit)) (now (counts .exit)) r ≡ rowTaken room (now (keys .entry)) (now (counts .entry)) used key ⌝ }
+    ensures { λ r. ⌜ rowed (now (keys .exit)) (now (counts .exit)) r
+        ≡ rowTaken room (now (keys .entry)) (now (counts .entry)) used key ⌝ }
 {
     let at = rank_of(keys, used, key);
     if is_granted(keys, used, room, at, key) {
@@ -71,7 +72,9 @@ fn result_lent(
     key: u32,
 ) -> Delivered
     requires { ⌜ LentCore room (now keys) (now counts) used st (now parts) × (rank + 1 ≤ st .opened) ⌝ }
-    ensures { λ r. ⌜ outcome (r .answer) (now (keys .exit)) (now (counts .exit)) (r .used) (r .standing) (now (parts .exit)) ≡ resultedIf room (now (keys .entry)) (now (counts .entry)) used st (now (parts .entry)) next rank key ⌝ }
+    ensures { λ r. ⌜ outcome (r .answer) (now (keys .exit)) (now (counts .exit)) (r .used) (r .standing)
+        (now (parts .exit))
+        ≡ resultedIf room (now (keys .entry)) (now (counts .entry)) used st (now (parts .entry)) next rank key ⌝ }
 {
     let slot = room.slot;
     let opened = st.opened;
@@ -103,7 +106,10 @@ pub fn deliver_lent(
     rec: &[u8],
 ) -> Delivered
     requires { ⌜ LentCore room (now keys) (now counts) used st (now parts) ⌝ }
-    ensures { λ r. ⌜ outcome (r .answer) (now (keys .exit)) (now (counts .exit)) (r .used) (r .standing) (now (parts .exit)) ≡ delivered room (core (now (keys .entry)) (now (counts .entry)) used st (now (parts .entry))) (now (rec .entry)) ⌝ }
+    ensures { λ r. ⌜ outcome (r .answer) (now (keys .exit)) (now (counts .exit)) (r .used) (r .standing)
+        (now (parts .exit))
+        ≡ delivered room (core (now (keys .entry)) (now (counts .entry)) used st (now (parts .entry)))
+        (now (rec .entry)) ⌝ }
 {
     let opened = st.opened;
     match judge_lent(st, parts, rec) {
