@@ -63,14 +63,16 @@ returns-4 : tie.Need-returns-4
 returns-4 c =
     let opened = c .before .before .before .before .before in
     let there = opened .before .before .before in
-    sym (report-short _ _ _ (fine (there .before)) (there .if2 .left) (not-false _ (opened .if3 .left)) _ (c .before .held-by .ensures) (c .if4 .taken))
+    sym (report-short _ _ _ (fine (there .before)) (there .if2 .left) (not-false _ (opened .if3 .left)) _
+    (c .before .held-by .ensures) (c .if4 .taken))
 
 -- src/reports.rt:15:1
 returns-5 : tie.Need-returns-5
 returns-5 c =
     let opened = c .before .before .before .before .before in
     let there = opened .before .before .before in
-    sym (report-done _ _ _ (fine (there .before)) (there .if2 .left) (not-false _ (opened .if3 .left)) _ (c .before .held-by .ensures) (c .if4 .left))
+    sym (report-done _ _ _ (fine (there .before)) (there .if2 .left) (not-false _ (opened .if3 .left)) _
+    (c .before .held-by .ensures) (c .if4 .left))
 
 pub judge-report-spec : {M : Type 1} → statement M
 judge-report-spec =
