@@ -21,19 +21,27 @@ sounded : (c : tie.Else1) → sound (c .before .before .args .house) ≡ true
 sounded c = sym (c .before .is-sound .ensures) ∙ not-false _ (c .if1 .left)
 
 returns : tie.Need-returns
-returns c = c .answer-with .ensures ∙ sym (close-unsound _ _ (sym (c .before .before .is-sound .ensures) ∙ not-true _ (c .before .if1 .taken)))
+returns c =
+    c .answer-with .ensures
+    ∙ sym (close-unsound _ _ (sym (c .before .before .is-sound .ensures) ∙ not-true _ (c .before .if1 .taken)))
 
 returns-2 : tie.Need-returns-2
 returns-2 c = c .answer-with2 .ensures ∙ sym (close-no-slot _ _ (sounded (c .before .before)) (c .before .if2 .taken))
 
 returns-3 : tie.Need-returns-3
-returns-3 c = c .answer-with3 .ensures ∙ sym (close-shut _ _ (sounded (c .before .before .before .before .before)) (c .before .before .before .before .if2 .left) (not-true _ (c .before .if3 .taken)))
+returns-3 c =
+    c .answer-with3 .ensures
+    ∙ sym (close-shut _ _ (sounded (c .before .before .before .before .before))
+    (c .before .before .before .before .if2 .left) (not-true _ (c .before .if3 .taken)))
 
 drop-slot-requires : tie.Need-drop-slot-requires
 drop-slot-requires c κs =
     let inside = c .before .before .before .before .before .before .before in
-    let start = c .before .before .before .before .before .before .before .before .before .before in
-    (inside .if2 .left, lent-kept _ _ _ (told-lent (start .args .house) (sounded (inside .before)) (long start) (paired start)))
+    let start = c .before .before .before .before .before .before .before .before .before .before in (
+      inside .if2 .left,
+      lent-kept _ _ _ (told-lent (start .args .house) (sounded (inside .before)) (long start)
+          (paired start)),
+    )
 
 returns-4 : tie.Need-returns-4
 returns-4 c =

@@ -13,13 +13,19 @@ sounded : (c : tie.Else1) → sound (c .before .before .before .args .house) ≡
 sounded c = sym (c .before .is-sound .ensures) ∙ not-false _ (c .if1 .left)
 
 returns : tie.Need-returns
-returns c = c .answer-with .ensures ∙ sym (deliver-unsound _ _ _ (sym (c .before .before .is-sound .ensures) ∙ not-true _ (c .before .if1 .taken)))
+returns c =
+    c .answer-with .ensures
+    ∙ sym (deliver-unsound _ _ _ (sym (c .before .before .is-sound .ensures) ∙ not-true _ (c .before .if1 .taken)))
 
 returns-2 : tie.Need-returns-2
-returns-2 c = c .answer-with2 .ensures ∙ sym (deliver-no-slot _ _ _ (sounded (c .before .before)) (c .before .if2 .taken))
+returns-2 c =
+    c .answer-with2 .ensures ∙ sym (deliver-no-slot _ _ _ (sounded (c .before .before)) (c .before .if2 .taken))
 
 returns-3 : tie.Need-returns-3
-returns-3 c = c .answer-with3 .ensures ∙ sym (deliver-shut _ _ _ (sounded (c .before .before .before .before .before)) (c .before .before .before .before .if2 .left) (not-true _ (c .before .if3 .taken)))
+returns-3 c =
+    c .answer-with3 .ensures
+    ∙ sym (deliver-shut _ _ _ (sounded (c .before .before .before .before .before))
+    (c .before .before .before .before .if2 .left) (not-true _ (c .before .if3 .taken)))
 
 deliver-to-requires : tie.Need-deliver-to-requires
 deliver-to-requires c κs =

@@ -22,16 +22,18 @@ deliver-lent-requires : tie.Need-deliver-lent-requires
 deliver-lent-requires c κs =
     let start = c .before .before .before .before .before .before .before .before .before .before in
     let room = c .before .before .before .before .before .before .before .before .room-of .ensures in
-    lent-to (start .args .house) (start .args .i) (start .pre .2) (room .0) (start .pre .0) (long start) (paired start) (room .1)
-    (start .pre .1) (start .pre .3) (cells start)
+    lent-to (start .args .house) (start .args .i) (start .pre .2) (room .0) (start .pre .0) (long start) (paired start)
+    (room .1) (start .pre .1) (start .pre .3) (cells start)
 
 returns : tie.Need-returns
 returns c =
-    let start = c .before .before .before .before .before .before .before .before .before .before .before .before .before .before .before .before in
-    let room = c .before .before .before .before .before .before .before .before .before .before .before .before .before .before .room-of .ensures in
-    let did = c .before .before .before .before .before .deliver-lent in
+    let did = c .before .before .before .before .before in
+    let roomy = did .before .before .before .before .before .before .before .before .before in
+    let start = roomy .before .before in
+    let room = roomy .room-of .ensures in
     c .answer-with .ensures
-    ∙ laid-back (start .args .house) (start .args .i) (start .pre .2) (room .0) (now (start .args .rec)) _ (did .ensures)
+    ∙ laid-back (start .args .house) (start .args .i) (start .pre .2) (room .0) (now (start .args .rec)) _
+    (did .deliver-lent .ensures)
 
 -- ---- found by search
 

@@ -7,7 +7,8 @@ use native.Mathlib.Omega.{arith}
 use borrow.Author.Needs.{needs}
 use borrow.Author.Tests.{not-true, not-false}
 use Rattle.house.specs.House.{sound}
-use Rattle.house.proofs.Calling.{told-within, told-rooms, open-unsound, open-no-slot, open-high, open-taken, open-no-room, open-done}
+use Rattle.house.proofs.Calling.{told-within, told-rooms, open-unsound, open-no-slot, open-high, open-taken}
+use Rattle.house.proofs.Calling.{open-no-room, open-done}
 use Rattle.house.proofs.calls.open_slot.Statement.{statement}
 use Rattle.house.proofs.calls.open_slot.Tie as tie
 
@@ -15,19 +16,24 @@ sounded : (c : tie.Else1) → sound (c .before .before .args .house) ≡ true
 sounded c = sym (c .before .is-sound .ensures) ∙ not-false _ (c .if1 .left)
 
 returns : tie.Need-returns
-returns c = c .answer-with .ensures ∙ sym (open-unsound _ _ _ (sym (c .before .before .is-sound .ensures) ∙ not-true _ (c .before .if1 .taken)))
+returns c =
+    c .answer-with .ensures
+    ∙ sym (open-unsound _ _ _ (sym (c .before .before .is-sound .ensures) ∙ not-true _ (c .before .if1 .taken)))
 
 returns-2 : tie.Need-returns-2
 returns-2 c = c .answer-with2 .ensures ∙ sym (open-no-slot _ _ _ (sounded (c .before .before)) (c .before .if2 .taken))
 
 returns-3 : tie.Need-returns-3
-returns-3 c = c .answer-with3 .ensures ∙ sym (open-high _ _ _ (sounded (c .before .before .before)) (c .before .before .if2 .left) (c .before .if3 .taken))
+returns-3 c =
+    c .answer-with3 .ensures
+    ∙ sym (open-high _ _ _ (sounded (c .before .before .before)) (c .before .before .if2 .left) (c .before .if3 .taken))
 
 returns-4 : tie.Need-returns-4
 returns-4 c =
     let low = c .before .before .before in
     c .answer-with4 .ensures
-    ∙ sym (open-taken _ _ _ (sounded (low .before .before)) (low .before .if2 .left) (low .if3 .left) (c .before .if4 .taken))
+    ∙ sym (open-taken _ _ _ (sounded (low .before .before)) (low .before .if2 .left) (low .if3 .left)
+    (c .before .if4 .taken))
 
 cast-free : tie.Need-cast-free
 cast-free c = record { fits = omega (arith, told-within _ (sounded (c .before .before .before .before))) }
@@ -46,20 +52,25 @@ sub-if5 c =
 returns-5 : tie.Need-returns-5
 returns-5 c =
     let low = c .before .before .before .before .before in
+    let a = low .before .before .before .before .args in
     let room = c .before in
     c .answer-with5 .ensures
     ∙ sym
-    (open-no-room _ _ _ (sounded (low .before .before)) (low .before .if2 .left) (low .if3 .left) (room .before .before .if4 .left)
-    (subst (λ (n : ℕ). 1024 - low .before .before .before .before .args .house .used - n < low .before .before .before .before .args .floor) (room .before .promised-by .ensures .0) (room .if5 .taken)))
+    (open-no-room _ _ _ (sounded (low .before .before)) (low .before .if2 .left) (low .if3 .left)
+    (room .before .before .if4 .left)
+    (subst (λ (n : ℕ). 1024 - a .house .used - n < a .floor) (room .before .promised-by .ensures .0)
+    (room .if5 .taken)))
 
 returns-6 : tie.Need-returns-6
 returns-6 c =
     let low = c .before .before .before .before .before .before in
+    let a = low .before .before .before .before .args in
     let room = c .before .before in
     c .answer-with6 .ensures
     ∙ sym
-    (open-done _ _ _ (sounded (low .before .before)) (low .before .if2 .left) (low .if3 .left) (room .before .before .if4 .left)
-    (subst (λ (n : ℕ). low .before .before .before .before .args .floor ≤ 1024 - low .before .before .before .before .args .house .used - n) (room .before .promised-by .ensures .0) (room .if5 .left))
+    (open-done _ _ _ (sounded (low .before .before)) (low .before .if2 .left) (low .if3 .left)
+    (room .before .before .if4 .left)
+    (subst (λ (n : ℕ). a .floor ≤ 1024 - a .house .used - n) (room .before .promised-by .ensures .0) (room .if5 .left))
     _ (c .before .opened .ensures))
 
 -- ---- found by search

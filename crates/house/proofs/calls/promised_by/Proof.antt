@@ -26,8 +26,15 @@ promised-of-requires c κs =
 
 returns : tie.Need-returns
 returns c =
-    let start = c .before .before .before .before in
-    (c .promised-of .ensures .0, omega (arith, told-rooms (start .args .house) (start .pre), c .promised-of .ensures .0), c .promised-of .ensures .2)
+    let start = c .before .before .before .before in (
+      c .promised-of .ensures .0,
+      omega (
+        arith,
+        told-rooms (start .args .house) (start .pre),
+        c .promised-of .ensures .0,
+      ),
+      c .promised-of .ensures .2,
+    )
 
 -- ---- found by search
 

@@ -30,7 +30,8 @@ sub-t10 c =
     let start = c .before .before .before .before in
     let h = start .args .house in
     let all = c .before .before .before .promised-by in
-    let own = unfilled-within 0 (h .slots) (keysOf h) (start .args .i) noSlot (omega (arith, all .ensures .2, start .pre .1)) in
+    let own = unfilled-within 0 (h .slots) (keysOf h) (start .args .i) noSlot
+    (omega (arith, all .ensures .2, start .pre .1)) in
     subst (λ (n : ℕ). n ≤ all .result)
     (ap (λ (s : Slot). unfilled (start .args .i) s (keysOf h)) (sym (start .pre .2)) ∙ sym (c .unfilled-of .ensures))
     (subst (λ (n : ℕ). unfilled (start .args .i) (slotAt h (start .args .i)) (keysOf h) ≤ n) (sym (all .ensures .0))

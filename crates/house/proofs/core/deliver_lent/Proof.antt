@@ -21,24 +21,31 @@ result-lent-requires : tie.Need-result-lent-requires
 result-lent-requires c κs =
     let start = c .before .before .before .before .before .before .before .before .before .before .before .before in
     let k = start .pre .kept in
-    let v = sym (c .before .before .before .before .before .before .judge-lent .ensures) ∙ c .before .before .before .before .next3 .given .1 in
+    let wanted = c .before .before .before .before in
+    let v = sym (wanted .before .before .judge-lent .ensures) ∙ wanted .next3 .given .1 in
     (start .pre, within-wanted _ (judged-within _ _ _ k) v)
 
 returns : tie.Need-returns
-returns c = delivered-refused _ _ _ _ _ _ _ _ (sym (c .before .before .before .judge-lent .ensures) ∙ c .before .answer .given .1)
+returns c =
+    delivered-refused _ _ _ _ _ _ _ _
+    (sym (c .before .before .before .judge-lent .ensures) ∙ c .before .answer .given .1)
 
 returns-2 : tie.Need-returns-2
-returns-2 c = delivered-taken _ _ _ _ _ _ _ _ (sym (c .before .before .before .judge-lent .ensures) ∙ c .before .next .given .1)
+returns-2 c =
+    delivered-taken _ _ _ _ _ _ _ _ (sym (c .before .before .before .judge-lent .ensures) ∙ c .before .next .given .1)
 
 returns-3 : tie.Need-returns-3
 returns-3 c =
-    delivered-opened _ _ _ _ _ _ _ _ _ _ (sym (c .before .before .before .before .before .before .before .judge-lent .ensures) ∙ c .before .before .before .before .before .next2 .given .1) _
+    let opened = c .before .before .before .before .before in
+    delivered-opened _ _ _ _ _ _ _ _ _ _ (sym (opened .before .before .judge-lent .ensures) ∙ opened .next2 .given .1) _
     (c .before .before .insert .ensures)
 
 returns-4 : tie.Need-returns-4
 returns-4 c =
-    c .before .before .before .before .before .before .result-lent .ensures
-    ∙ delivered-wanted _ _ _ _ _ _ _ _ _ _ (sym (c .before .before .before .before .before .before .before .before .before .before .before .before .before .judge-lent .ensures) ∙ c .before .before .before .before .before .before .before .before .before .before .before .next3 .given .1)
+    let done = c .before .before .before .before .before .before in
+    let wanted = done .before .before .before .before .before in
+    done .result-lent .ensures
+    ∙ delivered-wanted _ _ _ _ _ _ _ _ _ _ (sym (wanted .before .before .judge-lent .ensures) ∙ wanted .next3 .given .1)
 
 -- ---- found by search
 

@@ -15,7 +15,8 @@ returns c = sym (granted-held _ _ _ (sym (c .before .holds .ensures) ∙ c .if1 
 returns-2 : tie.Need-returns-2
 returns-2 c =
     let new = c .before .before .before .before in
-    sym (granted-floor _ _ _ (sym (new .before .holds .ensures) ∙ new .if1 .left) _ (c .before .held-by .ensures) (c .if2 .taken))
+    sym (granted-floor _ _ _ (sym (new .before .holds .ensures) ∙ new .if1 .left) _ (c .before .held-by .ensures)
+    (c .if2 .taken))
 
 returns-3 : tie.Need-returns-3
 returns-3 c =
@@ -24,7 +25,8 @@ returns-3 c =
     let l = start .pre in
     let long = length-take-le (start .args .used) (now (start .args .keys)) (omega (arith, l .long, l .within)) in
     sym
-    (granted-spare _ _ _ (sym (new .before .holds .ensures) ∙ new .if1 .left) _ (c .before .held-by .ensures) (c .if2 .left) _ long)
+    (granted-spare _ _ _ (sym (new .before .holds .ensures) ∙ new .if1 .left) _ (c .before .held-by .ensures)
+    (c .if2 .left) _ long)
 
 -- ---- found by search
 

@@ -14,7 +14,8 @@ returns c =
 returns-2 : tie.Need-returns-2
 returns-2 c =
     let rowed = c .before .before .before .before .before .before in
-    resulted-none _ _ _ _ _ _ _ _ _ _ (rowed .before .row-key .ensures) _ _ _ (rowed .take-row .ensures) (c .enum-told .given .1)
+    resulted-none _ _ _ _ _ _ _ _ _ _ (rowed .before .row-key .ensures) _ _ _ (rowed .take-row .ensures)
+    (c .enum-told .given .1)
 
 -- ---- found by search
 

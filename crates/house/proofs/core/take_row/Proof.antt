@@ -11,17 +11,20 @@ use Rattle.house.proofs.core.take_row.Statement.{statement}
 use Rattle.house.proofs.core.take_row.Tie as tie
 
 given : (c : tie.Then1)
-    → granted (c .before .before .before .before .before .before .before .args .room) (take (c .before .before .before .before .before .before .before .args .used) (now (c .before .before .before .before .before .before .before .args .keys))) (c .before .before .before .before .before .before .before .args .key) ≡ true
+    → (let a = c .before .before .before .before .before .before .before .args in
+    granted (a .room) (take (a .used) (now (a .keys))) (a .key) ≡ true)
 given c = sym (c .before .is-granted .ensures) ∙ c .if1 .taken
 
 count-row-requires : tie.Need-count-row-requires
 count-row-requires c κs =
     let start = c .before .before .before .before .before .before .before .before .before in
-    countable _ _ _ _ _ _ (start .pre) (c .before .before .before .before .before .rank-of .ensures) (given (c .before .before))
+    countable _ _ _ _ _ _ (start .pre) (c .before .before .before .before .before .rank-of .ensures)
+    (given (c .before .before))
 
 returns : tie.Need-returns
 returns c =
-    row-taken _ _ _ _ _ (given (c .before .before .before .before .before .before .before)) _ _ _ (c .before .before .before .before .count-row .ensures)
+    row-taken _ _ _ _ _ (given (c .before .before .before .before .before .before .before)) _ _ _
+    (c .before .before .before .before .count-row .ensures)
 
 returns-2 : tie.Need-returns-2
 returns-2 c = row-none _ _ _ _ _ (sym (c .before .is-granted .ensures) ∙ c .if1 .left)
