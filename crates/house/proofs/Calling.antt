@@ -25,7 +25,8 @@ use Rattle.house.specs.declared.House.{House}
 use Rattle.house.specs.declared.Room.{Room}
 use Rattle.house.specs.declared.Answered.{Answered}
 use Rattle.house.specs.declared.Figures.{Figures}
-use Rattle.house.specs.House.{rowCount, noSlot, closedSlot, openedSlot, keysOf, countsOf, free, unfilled, promisedFrom}
+use Rattle.house.specs.House.{rowCount, noSlot, closedSlot, openedSlot, keysOf, countsOf, free, unfilled}
+use Rattle.house.specs.House.{promisedFrom}
 use Rattle.house.specs.House.{promised, takenOf, rowsSound, slotSound, slotsSound, sound, Lent}
 use Rattle.house.specs.Deliver.{Outcome, core, delivered, pastCounts, LentRows, LentCore}
 use Rattle.house.specs.Calls.{slotAt, withSlot, answered, openSlot, closed, closeSlot, roomOf, deliveredTo}
@@ -100,7 +101,8 @@ open-told i s keys counts t e =
     }
 
 pub slots-at : (k : ℕ) (slots : List Slot) (keys counts : List ℕ) (j : ℕ) (none : Slot)
-    → slotsSound k slots keys counts ≡ true → j < length slots → slotSound (k + j) (getD slots j none) keys counts ≡ true
+    → slotsSound k slots keys counts ≡ true → j < length slots
+    → slotSound (k + j) (getD slots j none) keys counts ≡ true
 unfolding slotsSound
 slots-at k [] keys counts j none e h = absurd (omega arith)
 slots-at k (s ∷ ss) keys counts zero none e h =
@@ -159,7 +161,8 @@ module _ (h : House) (e : sound h ≡ true) (long : length (h .keys) ≡ rowCoun
       let there : getD (h .slots) (slotOf key) noSlot .taken ≡ true
       = sym (List·getD-map (λ (s : Slot). s .taken) (h .slots) (slotOf key) noSlot) ∙ row .1 in
       let slot = open-told (slotOf key) (getD (h .slots) (slotOf key) noSlot) (keysOf h) (countsOf h) there
-      (rw (zero-add (slotOf key)) at (slots-at 0 (h .slots) (keysOf h) (countsOf h) (slotOf key) noSlot (told-slots h e) (omega (arith, row .0)))) in
+      (rw (zero-add (slotOf key)) at (slots-at 0 (h .slots) (keysOf h) (countsOf h) (slotOf key) noSlot (told-slots h e)
+      (omega (arith, row .0)))) in
       omega (
         arith,
         count-within (keysOf h) (countsOf h) i (counts-long ∙ sym keys-long) in-keys,
@@ -208,13 +211,26 @@ module _ (h : House) (slot floor : ℕ) where
           pub open-no-room : free h - promised h < floor → openSlot h slot floor ≡ answered answer.NoRoom h
           unfolding openSlot
           open-no-room g =
-              rw (e, lt-ltb slot slotCount inside, le-leb floor rowCount low, shut, lt-leb floor (free h - promised h) g)
+              rw (
+                e,
+                lt-ltb slot slotCount inside,
+                le-leb floor rowCount low,
+                shut,
+                lt-leb floor (free h - promised h) g,
+              )
 
           pub open-done : floor ≤ free h - promised h → (s : Slot) → s ≡ openedSlot floor
               → openSlot h slot floor ≡ answered answer.Done (withSlot h slot s)
           unfolding openSlot
           open-done g s is =
-              rw (e, lt-ltb slot slotCount inside, le-leb floor rowCount low, shut, le-leb floor (free h - promised h) g, is)
+              rw (
+                e,
+                lt-ltb slot slotCount inside,
+                le-leb floor rowCount low,
+                shut,
+                le-leb floor (free h - promised h) g,
+                is,
+              )
 
 -- ---- close
 
@@ -285,7 +301,8 @@ unfolding unfilled
 lent-core h slot e long paired slots-long inside t cells =
     let s = slotAt h slot in
     let told = open-told slot s (keysOf h) (countsOf h) t
-    (rw (zero-add slot) at (slots-at 0 (h .slots) (keysOf h) (countsOf h) slot noSlot (told-slots h e) (omega arith))) in
+    (rw (zero-add slot) at (slots-at 0 (h .slots) (keysOf h) (countsOf h) slot noSlot (told-slots h e)
+    (omega arith))) in
     let own : unfilled slot s (keysOf h) ≤ promised h
     = rw (zero-add slot) at (unfilled-within 0 (h .slots) (keysOf h) slot noSlot (omega arith)) in
     let unfilled-is : unfilled slot s (keysOf h) ≡ s .floor - heldBy slot (keysOf h) = rw t in

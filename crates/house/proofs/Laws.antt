@@ -106,7 +106,8 @@ module _ (i : ℕ) (s : Slot) (keys counts : List ℕ) where
       pub open-sum : session.sound (s .session) ≡ true → s .session .standing .results ≤ mostResults
           → slotSound i s keys counts ≡ eqb (sumBy i keys counts) (s .session .standing .results)
       unfolding slotSound
-      open-sum e few = rw (open-there, le-leb (s .floor) rowCount low, e, le-leb (s .session .standing .results) mostResults few)
+      open-sum e few =
+          rw (open-there, le-leb (s .floor) rowCount low, e, le-leb (s .session .standing .results) mostResults few)
 
 module _ (slots : List Slot) (keys counts : List ℕ) (i : ℕ) (none : Slot) where
   module _ (h : i < length slots) where
@@ -191,7 +192,8 @@ module _ (h : House) where
 -- ---- what is lent
 
 pub lent-kept : (keys counts : List ℕ) (used : ℕ) → Lent keys counts used → Kept keys counts used
-lent-kept keys counts used l = record { fits = omega (arith, l .long, l .within); paired = l .paired ∙ sym (l .long); rises = l .rises }
+lent-kept keys counts used l =
+    record { fits = omega (arith, l .long, l .within); paired = l .paired ∙ sym (l .long); rises = l .rises }
 
 pub lent-keys : (keys counts : List ℕ) (used : ℕ) → Lent keys counts used → LentKeys keys used
 lent-keys keys counts used l = record { long = l .long; within = l .within; rises = l .rises }

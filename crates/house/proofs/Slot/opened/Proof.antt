@@ -8,7 +8,8 @@ use Rattle.house.proofs.Slot.opened.Statement.{statement}
 use Rattle.house.proofs.Slot.opened.Tie as tie
 
 returns : tie.Need-returns
-returns c = ap (λ (s : Session). record { taken = true; floor = c .before .args .floor; session = s }) (c .begin .ensures)
+returns c =
+    ap (λ (s : Session). record { taken = true; floor = c .before .args .floor; session = s }) (c .begin .ensures)
 
 -- ---- found by search
 

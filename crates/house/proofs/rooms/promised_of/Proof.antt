@@ -13,7 +13,10 @@ use Rattle.house.proofs.rooms.promised_of.Statement.{statement}
 use Rattle.house.proofs.rooms.promised_of.Tie as tie
 
 abbrev Inv-loop : tie.InvT-loop
-Inv-loop keys used slots n₀ i₀ n i = (length slots ≡ 16) × ((i ≤ 16) × ((n ≤ 1024 * i) × (promisedFrom 0 slots (take used keys) ≡ n + promisedFrom i (drop i slots) (take used keys))))
+Inv-loop keys used slots n₀ i₀ n i =
+    (length slots ≡ 16)
+    × ((i ≤ 16)
+    × ((n ≤ 1024 * i) × (promisedFrom 0 slots (take used keys) ≡ n + promisedFrom i (drop i slots) (take used keys))))
 
 abbrev μ-loop : tie.MeasureT-loop
 μ-loop keys used slots n₀ i₀ n i = 16 - i
@@ -56,8 +59,11 @@ loop-again c =
 returns : tie.Need-returns Inv-loop μ-loop
 returns c =
     let l = c .before in
-    let a = l .before .args in
-    (omega (arith, promised-none (a .t1) (take (a .used) (now (a .keys))) (l .loop .i) noSlot (omega arith)), omega arith, l .loop .inv .0)
+    let a = l .before .args in (
+      omega (arith, promised-none (a .t1) (take (a .used) (now (a .keys))) (l .loop .i) noSlot (omega arith)),
+      omega arith,
+      l .loop .inv .0,
+    )
 
 -- ---- found by search
 

@@ -11,10 +11,14 @@ returns : tie.Need-returns
 returns c = sym (unfilled-closed _ _ _ (not-true _ (c .if1 .taken)))
 
 returns-2 : tie.Need-returns-2
-returns-2 c = sym (unfilled-none _ _ _ (not-false _ (c .before .before .before .before .if1 .left)) _ (c .before .held-by .ensures) (c .if2 .taken))
+returns-2 c =
+    sym (unfilled-none _ _ _ (not-false _ (c .before .before .before .before .if1 .left)) _
+    (c .before .held-by .ensures) (c .if2 .taken))
 
 returns-3 : tie.Need-returns-3
-returns-3 c = sym (unfilled-some _ _ _ (not-false _ (c .before .before .before .before .if1 .left)) _ (c .before .held-by .ensures) (c .if2 .left))
+returns-3 c =
+    sym (unfilled-some _ _ _ (not-false _ (c .before .before .before .before .if1 .left)) _
+    (c .before .held-by .ensures) (c .if2 .left))
 
 -- ---- found by search
 

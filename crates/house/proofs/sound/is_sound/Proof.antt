@@ -22,29 +22,44 @@ long c = search needs
 -- what the test of the rows answers is what `rowsSound` says
 rows-told : (c : tie.After-rows-sound)
     → c .rows-sound .result
-    ≡ rowsSound (takenOf (c .before .before .before .before .before .before .before .args .house .slots)) (keysOf (c .before .before .before .before .before .before .before .args .house)) (countsOf (c .before .before .before .before .before .before .before .args .house))
+    ≡ rowsSound (takenOf (c .before .before .before .before .before .before .before .args .house .slots))
+    (keysOf (c .before .before .before .before .before .before .before .args .house))
+    (countsOf (c .before .before .before .before .before .before .before .args .house))
 rows-told c =
     let h = c .before .before .before .before .before .before .before .args .house in
-    c .rows-sound .ensures ∙ ap (λ (t : List Bool). rowsSound t (keysOf h) (countsOf h)) (c .before .before .before .before .taken-of .ensures)
+    c .rows-sound .ensures
+    ∙ ap (λ (t : List Bool). rowsSound t (keysOf h) (countsOf h)) (c .before .before .before .before .taken-of .ensures)
 
 rows : (c : tie.Else2)
-    → rowsSound (takenOf (c .before .before .before .before .before .before .before .before .args .house .slots)) (keysOf (c .before .before .before .before .before .before .before .before .args .house)) (countsOf (c .before .before .before .before .before .before .before .before .args .house))
+    → rowsSound (takenOf (c .before .before .before .before .before .before .before .before .args .house .slots))
+    (keysOf (c .before .before .before .before .before .before .before .before .args .house))
+    (countsOf (c .before .before .before .before .before .before .before .before .args .house))
     ≡ true
 rows c = sym (rows-told (c .before)) ∙ not-false _ (c .if2 .left)
 
 lent : (c : tie.Else2)
-    → Lent (c .before .before .before .before .before .before .before .before .args .house .keys) (c .before .before .before .before .before .before .before .before .args .house .counts) (c .before .before .before .before .before .before .before .before .args .house .used)
-lent c = lent-of (c .before .before .before .before .before .before .before .before .args .house) (long (c .before .before .before .before .before .before .before .before)) (paired (c .before .before .before .before .before .before .before .before)) (c .before .before .before .before .before .before .if1 .left) (rows c)
+    → Lent (c .before .before .before .before .before .before .before .before .args .house .keys)
+    (c .before .before .before .before .before .before .before .before .args .house .counts)
+    (c .before .before .before .before .before .before .before .before .args .house .used)
+lent c =
+    let start = c .before .before .before .before .before .before .before .before in
+    lent-of (start .args .house) (long start) (paired start)
+    (c .before .before .before .before .before .before .if1 .left) (rows c)
 
 slots : (c : tie.Else3)
-    → slotsSound 0 (c .before .before .before .before .before .before .before .before .before .before .before .before .before .args .house .slots) (keysOf (c .before .before .before .before .before .before .before .before .before .before .before .before .before .args .house)) (countsOf (c .before .before .before .before .before .before .before .before .before .before .before .before .before .args .house)) ≡ true
+    → (let fine = c .before .before .before .before .before in
+    let h = fine .before .before .before .before .before .before .before .before .args .house in
+    slotsSound 0 (h .slots) (keysOf h) (countsOf h) ≡ true)
 slots c = sym (c .before .slots-sound .ensures) ∙ not-false _ (c .if3 .left)
 
 returns : tie.Need-returns
 returns c = sym (sound-many _ (c .if1 .taken))
 
 returns-2 : tie.Need-returns-2
-returns-2 c = sym (sound-rows _ (c .before .before .before .before .before .before .if1 .left) (sym (rows-told (c .before)) ∙ not-true _ (c .if2 .taken)))
+returns-2 c =
+    sym
+    (sound-rows _ (c .before .before .before .before .before .before .if1 .left)
+    (sym (rows-told (c .before)) ∙ not-true _ (c .if2 .taken)))
 
 slots-sound-requires : tie.Need-slots-sound-requires
 slots-sound-requires c κs = lent (c .before .before .before)
@@ -53,13 +68,15 @@ returns-3 : tie.Need-returns-3
 returns-3 c =
     let fine = c .before .before .before .before .before in
     sym
-    (sound-slots _ (fine .before .before .before .before .before .before .if1 .left) (rows fine) (sym (c .before .slots-sound .ensures) ∙ not-true _ (c .if3 .taken)))
+    (sound-slots _ (fine .before .before .before .before .before .before .if1 .left) (rows fine)
+    (sym (c .before .slots-sound .ensures) ∙ not-true _ (c .if3 .taken)))
 
 promised-of-requires : tie.Need-promised-of-requires
 promised-of-requires c κs =
     let right = c .before .before in
-    let h = right .before .before .before .before .before .before .before .before .before .before .before .before .before .args .house in
-    (floors-low 0 (h .slots) (keysOf h) (countsOf h) (slots right), lent-keys _ _ _ (lent (right .before .before .before .before .before)))
+    let fine = right .before .before .before .before .before in
+    let h = fine .before .before .before .before .before .before .before .before .args .house in
+    (floors-low 0 (h .slots) (keysOf h) (countsOf h) (slots right), lent-keys _ _ _ (lent fine))
 
 returns-4 : tie.Need-returns-4
 returns-4 c =

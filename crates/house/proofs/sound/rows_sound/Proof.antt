@@ -7,7 +7,11 @@ use Rattle.house.proofs.sound.rows_sound.Statement.{statement}
 use Rattle.house.proofs.sound.rows_sound.Tie as tie
 
 returns : tie.Need-returns
-returns c = c .rows-right .ensures ∙ sym (rows-rise _ _ _ (sym (c .before .before .before .before .before .is-rising .ensures) ∙ c .before .before .before .before .if1 .taken))
+returns c =
+    c .rows-right .ensures
+    ∙ sym (rows-rise _ _ _
+    (sym (c .before .before .before .before .before .is-rising .ensures)
+    ∙ c .before .before .before .before .if1 .taken))
 
 returns-2 : tie.Need-returns-2
 returns-2 c = sym (rows-fall _ _ _ (sym (c .before .is-rising .ensures) ∙ c .if1 .left))

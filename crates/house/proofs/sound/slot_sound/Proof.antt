@@ -13,13 +13,17 @@ returns : tie.Need-returns
 returns c = sym (shut-floor _ _ _ _ (not-true _ (c .before .before .if1 .taken)) (c .if2 .taken))
 
 returns-2 : tie.Need-returns-2
-returns-2 c = c .nothing-yet .ensures ∙ sym (shut-nothing _ _ _ _ (not-true _ (c .before .before .before .if1 .taken)) (c .before .if2 .left))
+returns-2 c =
+    c .nothing-yet .ensures
+    ∙ sym (shut-nothing _ _ _ _ (not-true _ (c .before .before .before .if1 .taken)) (c .before .if2 .left))
 
 returns-3 : tie.Need-returns-3
 returns-3 c = sym (open-floor _ _ _ _ (not-false _ (c .before .before .if1 .left)) (c .if3 .taken))
 
 returns-4 : tie.Need-returns-4
-returns-4 c = sym (open-session _ _ _ _ (not-false _ (c .before .before .before .before .if1 .left)) (c .before .before .if3 .left) (sym (c .before .is-sound .ensures) ∙ not-true _ (c .if4 .taken)))
+returns-4 c =
+    sym (open-session _ _ _ _ (not-false _ (c .before .before .before .before .if1 .left))
+    (c .before .before .if3 .left) (sym (c .before .is-sound .ensures) ∙ not-true _ (c .if4 .taken)))
 
 sum-is-requires : tie.Need-sum-is-requires
 sum-is-requires c κs =
@@ -35,7 +39,8 @@ returns-5 c =
     ∙ ap (eqb _) (known .0)
     ∙ sym
     (open-sum _ _ _ _ (not-false _ (low .before .before .if1 .left)) (low .if3 .left)
-    (sym (fine .before .is-sound .ensures) ∙ not-false _ (fine .if4 .left)) (subst (λ (n : ℕ). n ≤ 4294967295) (known .0) (known .1)))
+    (sym (fine .before .is-sound .ensures) ∙ not-false _ (fine .if4 .left))
+    (subst (λ (n : ℕ). n ≤ 4294967295) (known .0) (known .1)))
 
 -- ---- found by search
 

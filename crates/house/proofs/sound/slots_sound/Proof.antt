@@ -13,7 +13,11 @@ use Rattle.house.proofs.sound.slots_sound.Statement.{statement}
 use Rattle.house.proofs.sound.slots_sound.Tie as tie
 
 abbrev Inv-loop : tie.InvT-loop
-Inv-loop keys counts used slots i₀ i = (length slots ≡ 16) × ((i ≤ 16) × (slotsSound 0 slots (take used keys) (take used counts) ≡ slotsSound i (drop i slots) (take used keys) (take used counts)))
+Inv-loop keys counts used slots i₀ i =
+    (length slots ≡ 16)
+    × ((i ≤ 16)
+    × (slotsSound 0 slots (take used keys) (take used counts)
+    ≡ slotsSound i (drop i slots) (take used keys) (take used counts)))
 
 abbrev μ-loop : tie.MeasureT-loop
 μ-loop keys counts used slots i₀ i = 16 - i
@@ -31,7 +35,8 @@ returns c =
     let a = l .before .args in
     sym
     (l .loop .inv .1 .1
-    ∙ slots-not (a .t1) (take (a .used) (now (a .keys))) (take (a .used) (now (a .counts))) (l .loop .i) noSlot (omega arith)
+    ∙ slots-not (a .t1) (take (a .used) (now (a .keys))) (take (a .used) (now (a .counts))) (l .loop .i) noSlot
+    (omega arith)
     (sym (c .before .slot-sound .ensures) ∙ not-true _ (c .if1 .taken)))
 
 loop-again : tie.Need-loop-again Inv-loop μ-loop
@@ -43,7 +48,8 @@ loop-again c =
       (
         omega arith,
         l .loop .inv .1 .1
-            ∙ slots-on (a .t1) (take (a .used) (now (a .keys))) (take (a .used) (now (a .counts))) (l .loop .i) noSlot (omega arith)
+            ∙ slots-on (a .t1) (take (a .used) (now (a .keys))) (take (a .used) (now (a .counts))) (l .loop .i) noSlot
+            (omega arith)
             (sym (c .before .slot-sound .ensures) ∙ not-false _ (c .if1 .left)),
       ),
     )
@@ -54,7 +60,8 @@ returns-2 c =
     let a = l .before .args in
     sym
     (l .loop .inv .1 .1
-    ∙ slots-done (a .t1) (take (a .used) (now (a .keys))) (take (a .used) (now (a .counts))) (l .loop .i) noSlot (omega arith))
+    ∙ slots-done (a .t1) (take (a .used) (now (a .keys))) (take (a .used) (now (a .counts))) (l .loop .i) noSlot
+    (omega arith))
 
 -- ---- found by search
 

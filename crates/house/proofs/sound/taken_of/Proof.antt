@@ -13,7 +13,8 @@ use Rattle.house.proofs.sound.taken_of.Statement.{statement}
 use Rattle.house.proofs.sound.taken_of.Tie as tie
 
 abbrev Inv-loop : tie.InvT-loop
-Inv-loop slots taken₀ i₀ taken i = (length slots ≡ 16) × ((length taken ≡ 16) × ((i ≤ 16) × (take i taken ≡ take i (takenOf slots))))
+Inv-loop slots taken₀ i₀ taken i =
+    (length slots ≡ 16) × ((length taken ≡ 16) × ((i ≤ 16) × (take i taken ≡ take i (takenOf slots))))
 
 abbrev μ-loop : tie.MeasureT-loop
 μ-loop slots taken₀ i₀ taken i = 16 - i
