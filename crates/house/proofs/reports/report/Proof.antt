@@ -159,11 +159,12 @@ module _ {M : Type 1} (𝓤 : URA M) (H : Heap 𝓤) (A : Atoms 𝓤) (W : Given
 
   exits : (r : Reported) → Is J.the-row r (jm r ∷ []) → r ≡ reported h sl (length ys) → Room T.the-row (length ys)
       → ent 𝓤
-      (⋆ 𝓤 H A (‵ (fobs γ (codedHoleys T.the-row .code (heres T.the-row (at r)))) ∷ ‵
-      (fbor κ (Held T.the-row (length (at r)) b o γ)) ∷ ‵ (flft κ q) ∷ [])) (Post (jm r))
+      (⋆ 𝓤 H A
+      (‵ (fobs γ (codedHoleys T.the-row .code (heres T.the-row (at r))))
+      ∷ ‵ (fbor κ (Held T.the-row (length (at r)) b o γ)) ∷ ‵ (flft κ q) ∷ [])) (Post (jm r))
   exits r jg e room =
-      qed W (‵ (fobs γ (codedHoleys T.the-row .code (heres T.the-row (at r)))) ∷ ‵
-      (fbor κ (Held T.the-row (length (at r)) b o γ)) ∷ ‵ (flft κ q) ∷ []) ∵
+      qed W (‵ (fobs γ (codedHoleys T.the-row .code (heres T.the-row (at r))))
+      ∷ ‵ (fbor κ (Held T.the-row (length (at r)) b o γ)) ∷ ‵ (flft κ q) ∷ []) ∵
       nothing ! $ owned ! u32 (Is u32) (uint-makes 𝓤 H A W w32) sl _ (refl, sl-fits) $ fjoin ! $
       owned ! U.the-row (Is U.the-row) (LL.makes U.the-type U′.the-plain 𝓤 H A) h _ hg $ fjoin ! $
       move ! (1 ∷ 2 ∷ 3 ∷ 0 ∷ []) $
@@ -173,8 +174,7 @@ module _ {M : Type 1} (𝓤 : URA M) (H : Heap 𝓤) (A : Atoms 𝓤) (W : Given
       nothing ! $ move ! (3 ∷ 0 ∷ []) $ join ! $
       frame ! $ fjoin ! $ pureI ! (at-slice T.the-row (x (at r)) (s ∷ [])) (tt, (tt, tt)) (
         ap (λ (m : ℕ). sliceVal (b, o) m ∷ []) (sym (len (r .rows))),
-        subst (Room T.the-row) (sym (len (r .rows)))
-            room,
+        subst (Room T.the-row) (sym (len (r .rows))) room,
       ) $ fjoin ! $ fjoin ! $ frame ! $
       owned ! J.the-row (Is J.the-row) (LL.makes J.the-type J′.the-plain 𝓤 H A) r _ jg $ done !
 
@@ -216,24 +216,24 @@ module _ {M : Type 1} (𝓤 : URA M) (H : Heap 𝓤) (A : Atoms 𝓤) (W : Given
     -- the context before the loop, when the call has been judged
     abbrev Called : Reported → List (Item 𝓤)
     Called r =
-        ‵ (froom tyPtr l₁₀ 0) ∷ ‵ (fdies tyPtr l₁₀) ∷ ‵ (froom word l₉ 0) ∷ ‵ (fdies word l₉) ∷ ‵
-        (froom T′.mir l₈ 0) ∷ ‵ (fdies T′.mir l₈) ∷ ‵ (froom tyBool l₇ 0) ∷ ‵ (fdies tyBool l₇) ∷ ‵
-        (fat fullShare word l₆ 0 (vint w64 (length ys))) ∷ ‵ (fdies word l₆) ∷ ‵ (froom word l₅ 0) ∷ ‵
-        (fdies word l₅) ∷ ‵ (fat fullShare J′.mir l₄ 0 (jm r)) ∷ ‵ (fdies J′.mir l₄) ∷ ‵
-        (fat fullShare half l₃ 0 (vint w32 sl)) ∷ ‵ (fdies half l₃) ∷ ‵ (fat fullShare U′.mir l₂ 0 mach) ∷ ‵
-        (fdies U′.mir l₂) ∷ ‵ (fat fullShare slice l₁ 0 s) ∷ ‵ (fdies slice l₁) ∷ ‵ (froom J′.mir l₀ 0) ∷ ‵
-        (fdies J′.mir l₀) ∷ (‵ (flft κ q) ⊛ ‵ ftrue) ∷ ‵ (owns (MutSlice (named 0) κ T.the-row ∷ U.the-row ∷ u32 ∷ []) a
-        vals) ∷ []
+        ‵ (froom tyPtr l₁₀ 0) ∷ ‵ (fdies tyPtr l₁₀) ∷ ‵ (froom word l₉ 0) ∷ ‵ (fdies word l₉) ∷ ‵ (froom T′.mir l₈ 0)
+        ∷ ‵ (fdies T′.mir l₈) ∷ ‵ (froom tyBool l₇ 0) ∷ ‵ (fdies tyBool l₇)
+        ∷ ‵ (fat fullShare word l₆ 0 (vint w64 (length ys))) ∷ ‵ (fdies word l₆) ∷ ‵ (froom word l₅ 0)
+        ∷ ‵ (fdies word l₅)
+        ∷ ‵ (fat fullShare J′.mir l₄ 0 (jm r)) ∷ ‵ (fdies J′.mir l₄) ∷ ‵ (fat fullShare half l₃ 0 (vint w32 sl))
+        ∷ ‵ (fdies half l₃) ∷ ‵ (fat fullShare U′.mir l₂ 0 mach) ∷ ‵ (fdies U′.mir l₂) ∷ ‵ (fat fullShare slice l₁ 0 s)
+        ∷ ‵ (fdies slice l₁) ∷ ‵ (froom J′.mir l₀ 0) ∷ ‵ (fdies J′.mir l₀) ∷ (‵ (flft κ q) ⊛ ‵ ftrue)
+        ∷ ‵ (owns (MutSlice (named 0) κ T.the-row ∷ U.the-row ∷ u32 ∷ []) a vals) ∷ []
 
     abbrev Begin : List (Item 𝓤)
     Begin =
-        ‵ (froom tyPtr l₁₀ 0) ∷ ‵ (fdies tyPtr l₁₀) ∷ ‵ (froom word l₉ 0) ∷ ‵ (fdies word l₉) ∷ ‵
-        (froom T′.mir l₈ 0) ∷ ‵ (fdies T′.mir l₈) ∷ ‵ (froom tyBool l₇ 0) ∷ ‵ (fdies tyBool l₇) ∷ ‵
-        (froom word l₆ 0) ∷ ‵ (fdies word l₆) ∷ ‵ (froom word l₅ 0) ∷ ‵ (fdies word l₅) ∷ ‵ (froom J′.mir l₄ 0) ∷ ‵
-        (fdies J′.mir l₄) ∷ ‵ (fat fullShare half l₃ 0 (vint w32 sl)) ∷ ‵ (fdies half l₃) ∷ ‵
-        (fat fullShare U′.mir l₂ 0 mach) ∷ ‵ (fdies U′.mir l₂) ∷ ‵ (fat fullShare slice l₁ 0 s) ∷ ‵ (fdies slice l₁) ∷ ‵
-        (froom J′.mir l₀ 0) ∷ ‵ (fdies J′.mir l₀) ∷ (‵ (flft κ q) ⊛ ‵ ftrue) ∷ ‵
-        (owns (MutSlice (named 0) κ T.the-row ∷ U.the-row ∷ u32 ∷ []) a vals) ∷ []
+        ‵ (froom tyPtr l₁₀ 0) ∷ ‵ (fdies tyPtr l₁₀) ∷ ‵ (froom word l₉ 0) ∷ ‵ (fdies word l₉) ∷ ‵ (froom T′.mir l₈ 0)
+        ∷ ‵ (fdies T′.mir l₈) ∷ ‵ (froom tyBool l₇ 0) ∷ ‵ (fdies tyBool l₇) ∷ ‵ (froom word l₆ 0) ∷ ‵ (fdies word l₆)
+        ∷ ‵ (froom word l₅ 0) ∷ ‵ (fdies word l₅) ∷ ‵ (froom J′.mir l₄ 0) ∷ ‵ (fdies J′.mir l₄)
+        ∷ ‵ (fat fullShare half l₃ 0 (vint w32 sl)) ∷ ‵ (fdies half l₃) ∷ ‵ (fat fullShare U′.mir l₂ 0 mach)
+        ∷ ‵ (fdies U′.mir l₂) ∷ ‵ (fat fullShare slice l₁ 0 s) ∷ ‵ (fdies slice l₁) ∷ ‵ (froom J′.mir l₀ 0)
+        ∷ ‵ (fdies J′.mir l₀) ∷ (‵ (flft κ q) ⊛ ‵ ftrue)
+        ∷ ‵ (owns (MutSlice (named 0) κ T.the-row ∷ U.the-row ∷ u32 ∷ []) a vals) ∷ []
 
     module _ (r : Reported) (jg : Is J.the-row r (jm r ∷ [])) (e : r ≡ reported h sl (length ys)) where
       small : (r .rows ≤ rowsOf h sl) × (r .rows ≤ length ys)
@@ -248,20 +248,21 @@ module _ {M : Type 1} (𝓤 : URA M) (H : Heap 𝓤) (A : Atoms 𝓤) (W : Given
       -- what no turn touches
       abbrev Frame : List (Item 𝓤)
       Frame =
-          ‵ (fat fullShare slice l₁ 0 s) ∷ ‵ (fat fullShare U′.mir l₂ 0 mach) ∷ ‵
-          (fat fullShare half l₃ 0 (vint w32 sl)) ∷ ‵ (fat fullShare J′.mir l₄ 0 (jm r)) ∷ ‵
-          (fat fullShare word l₆ 0 (vint w64 (length ys))) ∷ ‵ (froom J′.mir l₀ 0)
-          ∷ ‵ (fobor κ q (Held T.the-row (length ys) b o γ)) ∷ ‵
-          (fobs γ (codedHoleys T.the-row .code (heres T.the-row ys))) ∷ ‵
-          (fauth γ (codedHoleys T.the-row .code (heres T.the-row ys)))
-          ∷ ‵ (fdies J′.mir l₀) ∷ ‵ (fdies slice l₁) ∷ ‵ (fdies U′.mir l₂) ∷ ‵ (fdies half l₃) ∷ ‵ (fdies J′.mir l₄) ∷ ‵
-          (fdies word l₅) ∷ ‵ (fdies word l₆) ∷ ‵ (fdies tyBool l₇) ∷ ‵ (fdies T′.mir l₈) ∷ ‵ (fdies word l₉) ∷ ‵
-          (fdies tyPtr l₁₀) ∷ []
+          ‵ (fat fullShare slice l₁ 0 s) ∷ ‵ (fat fullShare U′.mir l₂ 0 mach)
+          ∷ ‵ (fat fullShare half l₃ 0 (vint w32 sl)) ∷ ‵ (fat fullShare J′.mir l₄ 0 (jm r))
+          ∷ ‵ (fat fullShare word l₆ 0 (vint w64 (length ys)))
+          ∷ ‵ (froom J′.mir l₀ 0)
+          ∷ ‵ (fobor κ q (Held T.the-row (length ys) b o γ))
+          ∷ ‵ (fobs γ (codedHoleys T.the-row .code (heres T.the-row ys)))
+          ∷ ‵ (fauth γ (codedHoleys T.the-row .code (heres T.the-row ys)))
+          ∷ ‵ (fdies J′.mir l₀) ∷ ‵ (fdies slice l₁) ∷ ‵ (fdies U′.mir l₂) ∷ ‵ (fdies half l₃) ∷ ‵ (fdies J′.mir l₄)
+          ∷ ‵ (fdies word l₅) ∷ ‵ (fdies word l₆) ∷ ‵ (fdies tyBool l₇) ∷ ‵ (fdies T′.mir l₈) ∷ ‵ (fdies word l₉)
+          ∷ ‵ (fdies tyPtr l₁₀) ∷ []
 
       -- i rows are written
       abbrev At : ℕ → List (Item 𝓤)
-      At i = ‵ (row T.the-row fullShare (upto i) b o) ∷ ‵ (fat fullShare word l₅ 0 (vint w64 i)) ∷ ‵
-          (froom tyBool l₇ 0) ∷ ‵ (froom T′.mir l₈ 0) ∷ ‵ (froom word l₉ 0) ∷ ‵ (froom tyPtr l₁₀ 0) ∷ Frame
+      At i = ‵ (row T.the-row fullShare (upto i) b o) ∷ ‵ (fat fullShare word l₅ 0 (vint w64 i)) ∷ ‵ (froom tyBool l₇ 0)
+          ∷ ‵ (froom T′.mir l₈ 0) ∷ ‵ (froom word l₉ 0) ∷ ‵ (froom tyPtr l₁₀ 0) ∷ Frame
 
       -- the invariant, where t rows are left
       abbrev Inv : ℕ → SProp 𝓤
@@ -291,9 +292,9 @@ module _ {M : Type 1} (𝓤 : URA M) (H : Heap 𝓤) (A : Atoms 𝓤) (W : Given
           (and-then ! (load ! (from ! (stop !)) (look ! 9 refl))
           (and-then ! (load ! (from ! (stop !)) (look ! 2 refl)) (no-more !)))) (λ v.
           use1 W (later
-          (some (λ (r : Row). (‵ ftrue ⊛ ‵ (T.the-row .own r (v ∷ []))) ⊛ raw
-          (ensured 𝓤 H A row-at.ended (row-at.clauses 𝓤 H A mem run) tt (h, (sl, (i, tt))) tt r)))) (id⊢ 𝓤 _) $
-          await ! tt $ pick ! (λ r.
+          (some (λ (r : Row). (‵ ftrue ⊛ ‵ (T.the-row .own r (v ∷ [])))
+          ⊛ raw (ensured 𝓤 H A row-at.ended (row-at.clauses 𝓤 H A mem run) tt (h, (sl, (i, tt))) tt r))))
+          (id⊢ 𝓤 _) $ await ! tt $ pick ! (λ r.
           split ! $ move ! (1 ∷ []) $ use1 W (raw (fact 𝓤 (r ≡ rowAt h sl i))) (made-of 𝓤 H A mem run h sl i r) $
           heard ! (r ≡ rowAt h sl i) (λ e. split ! $ drop ! $
           peeks ! T.the-row (Is T.the-row) (shows 𝓤 H A T.the-row) r (v ∷ []) (λ is.
@@ -400,9 +401,9 @@ module _ {M : Type 1} (𝓤 : URA M) (H : Heap 𝓤) (A : Atoms 𝓤) (W : Given
         (and-then ! (load ! (from ! (stop !)) (look ! 17 refl)) (and-then ! (load ! (from ! (stop !)) (look ! 15 refl))
         (and-then ! (load ! (from ! (stop !)) (look ! 9 refl)) (no-more !)))) (λ v.
         use1 W (later
-        (some (λ (r : Reported). (‵ ftrue ⊛ ‵ (J.the-row .own r (v ∷ []))) ⊛ raw
-        (ensured 𝓤 H A judge.ended (judge.clauses 𝓤 H A mem run) tt (h, (sl, (length ys, tt))) tt r)))) (id⊢ 𝓤 _) $
-        await ! tt $ pick ! (λ r.
+        (some (λ (r : Reported). (‵ ftrue ⊛ ‵ (J.the-row .own r (v ∷ [])))
+        ⊛ raw (ensured 𝓤 H A judge.ended (judge.clauses 𝓤 H A mem run) tt (h, (sl, (length ys, tt))) tt r))))
+        (id⊢ 𝓤 _) $ await ! tt $ pick ! (λ r.
         split ! $ move ! (1 ∷ []) $ use1 W (raw (fact 𝓤 (r ≡ reported h sl (length ys))))
         (reported-of 𝓤 H A mem run h sl (length ys) r) $ heard ! (r ≡ reported h sl (length ys))
         (λ e. split ! $ drop ! $
@@ -420,12 +421,7 @@ module _ {M : Type 1} (𝓤 : URA M) (H : Heap 𝓤) (A : Atoms 𝓤) (W : Given
   walk 𝓣 known known-judge room =
       qed W ((‵ (flft κ q) ⊛ ‵ ftrue) ∷ ‵ (owns (MutSlice (named 0) κ T.the-row ∷ U.the-row ∷ u32 ∷ []) a vals) ∷ []) ∵
       enter ! (𝓣 .C) (𝓣 .Λ) code.function (s ∷ mach ∷ vint w32 sl ∷ []) _ $
-      alloc1 ! (λ l₀.
-      alloc1 ! (λ l₁.
-      alloc1 ! (λ l₂.
-      alloc1 ! (λ l₃.
-      alloc1 ! (λ l₄.
-      alloc1 ! (λ l₅.
+      alloc1 ! (λ l₀. alloc1 ! (λ l₁. alloc1 ! (λ l₂. alloc1 ! (λ l₃. alloc1 ! (λ l₄. alloc1 ! (λ l₅.
       alloc1 ! (λ l₆. alloc1 ! (λ l₇. alloc1 ! (λ l₈. alloc1 ! (λ l₉. alloc1 ! (λ l₁₀. alloc0 ! $ params1 ! $
       pass1 ! (init ! 18 refl (tt, (tt, (record { fits = room .0 }, tt)))) $ pass1 ! (init ! 16 refl wt) $
       pass1 ! (init ! 14 refl (tt, record { fits = sl-fits })) $ pass0 ! $
