@@ -1,0 +1,58 @@
+// A house's line: its name and what each call answers.
+use crate::text::say;
+use crate::text::say_number;
+use answers::Answer;
+use answers::number;
+use house::House;
+use house::calls::close_slot;
+use house::calls::deliver;
+use house::calls::figures;
+use house::calls::open_slot;
+use house::judge_report;
+
+fn say_answer(call: &[u8], answer: Answer) {
+    say(call);
+    say_number(number(answer) as u64);
+}
+
+// The figures are told of a sound house only: of another there are none.
+fn say_figures(h: House) {
+    let f = figures(h);
+    let answer = f.answer;
+    say_answer(b", figures ", answer);
+    if number(answer) == 0 {
+        say(b", ");
+        say_number(f.free as u64);
+        say(b" free, ");
+        say_number(f.promised as u64);
+        say(b" promised");
+    }
+    say(b"\n");
+}
+
+pub(crate) fn line(name: &[u8], h: House) {
+    say(name);
+    let opened = open_slot(h, 15, 0);
+    let answer = opened.answer;
+    say_answer(b": open ", answer);
+    let delivered = deliver(h, 0, b"");
+    let answer = delivered.answer;
+    say_answer(b", deliver ", answer);
+    let reported = judge_report(h, 0, 1024);
+    let answer = reported.answer;
+    say_answer(b", report ", answer);
+    let closed = close_slot(h, 0);
+    let answer = closed.answer;
+    say_answer(b", close ", answer);
+    say_figures(h);
+}
+
+// A part result of head 1, site 1 and bin 5, low byte first, to slot 0.
+pub(crate) fn line_result(name: &[u8], h: House) {
+    let rec = [7u8, 0, 5, 20, 1, 1, 0, 0, 0, 5, 0];
+    say(name);
+    let delivered = deliver(h, 0, &rec);
+    let answer = delivered.answer;
+    say_answer(b": deliver PRR 1/1 bin 5 ", answer);
+    say(b"\n");
+}
