@@ -1,6 +1,6 @@
-// "open parts of a slot are distinct, at most 32, heads at most 254", "before the body of a stream there is no part, PRR
-// or PCR", "after MRR no part is open and a PCR was accepted": the session of slot 0, as its house's calls see it. Where
-// it has accepted a PRR there is a row for it, so that the sum is right.
+// A house is sound, its conditions on a session: open parts distinct, at most 32, heads at most 254; before the body no
+// part, PRR or PCR; after MRR no part open and a PCR accepted. The session is that of slot 0, as the calls of its house
+// see it. Where it has accepted a PRR there is a row for it, so that the sum is right.
 use crate::build::cells;
 use crate::build::closed;
 use crate::build::rising_parts;
