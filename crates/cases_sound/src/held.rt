@@ -1,6 +1,6 @@
-// A house is sound, its conditions on rows: each free or held by one open slot, the keys of a slot distinct, heads, bins
-// and counts in range, and the counts of a slot summing to its accepted PRRs. A key is slot, head, site and bin in one
-// number, and the keys rise: so keys that differ and do not rise are not sound either.
+// A house is sound, its conditions on rows: each free or held by one open slot, the keys of a slot distinct, heads,
+// bins and counts in range, and the counts of a slot summing to its accepted PRRs. A key is slot, head, site and bin
+// in one number, and the keys rise: so keys that differ and do not rise are not sound either.
 use crate::build::cells;
 use crate::build::closed;
 use crate::build::house_of;

@@ -1,5 +1,5 @@
-// A house is sound, its conditions on floors: each at most 1,024, free at least promised, and a closed slot, which holds
-// nothing.
+// A house is sound, its conditions on floors: each at most 1,024, free at least promised, and a closed slot, which
+// holds nothing.
 use crate::build::cells;
 use crate::build::closed;
 use crate::build::house_of;
