@@ -1,0 +1,73 @@
+// Delivers one record a hundred thousand times to a house with 1,000 rows held, by value: what a call costs at the door.
+// The record is a PTR, whose body is not read: nearly every record of a real lot. It prints the last figures.
+use house::Figures;
+use house::House;
+use house::Slot;
+use house::calls;
+use numbers::Order;
+use order::Place;
+use session::Session;
+use session::Standing;
+
+const TURNS: u64 = 100000;
+
+// Head 0 and site 0, each with the next bin: keys of slot 0.
+fn rising_keys() -> [u64; 1024] {
+    let mut keys = [0u64; 1024];
+    let mut i: usize = 0;
+    while i < 1024 {
+        keys[i] = i as u64;
+        i += 1;
+    }
+    keys
+}
+
+fn held() -> House {
+    let standing = Standing {
+        place: Place::Body,
+        order: Order::LowFirst,
+        opened: 0,
+        pcr: false,
+        results: 1000,
+    };
+    let session = Session {
+        standing,
+        parts: [0u64; 32],
+    };
+    let mut h = House::fresh();
+    h.slots[0] = Slot {
+        taken: true,
+        floor: 1024,
+        session,
+    };
+    h.keys = rising_keys();
+    h.counts = [1u64; 1024];
+    h.used = 1000;
+    h
+}
+
+fn deliver_all(house: House, rec: &[u8]) -> House {
+    let mut h = house;
+    let mut turns = TURNS;
+    while turns > 0 {
+        let done = calls::deliver(h, 0, rec);
+        h = done.house;
+        turns -= 1;
+    }
+    h
+}
+
+fn say(found: Figures) {
+    let answer = found.answer;
+    io::print_decimal(1, answers::number(answer) as u64);
+    io::write_all(1, b" ");
+    io::print_decimal(1, found.free as u64);
+    io::write_all(1, b" ");
+    io::print_decimal(1, found.promised as u64);
+    io::write_all(1, b"\n");
+}
+
+fn main() {
+    let house = deliver_all(held(), b"\x04\x00\x0f\x0a\x00\x00\x00\x00");
+    say(calls::figures(house));
+}
