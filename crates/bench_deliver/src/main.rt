@@ -3,7 +3,6 @@
 use house::Figures;
 use house::House;
 use house::Slot;
-use house::calls;
 use numbers::Order;
 use order::Place;
 use session::Session;

@@ -3,12 +3,12 @@ use crate::text::say;
 use crate::text::say_number;
 use answers::Answer;
 use answers::number;
+use calls::close_slot;
+use calls::deliver;
+use calls::figures;
+use calls::judge_report;
+use calls::open_slot;
 use house::House;
-use house::calls::close_slot;
-use house::calls::deliver;
-use house::calls::figures;
-use house::calls::open_slot;
-use house::judge_report;
 
 fn say_answer(call: &[u8], answer: Answer) {
     say(call);

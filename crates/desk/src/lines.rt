@@ -1,5 +1,5 @@
 // Lines from standard input. The longest call delivers 65,539 bytes; a longer line is no call, and is passed over.
-use crate::calls::answer_line;
+use crate::answering::answer_line;
 use crate::text::no_call;
 use house::House;
 ghost use mathlib.Core.Path.{_≡_};

@@ -10,7 +10,7 @@
 //
 // One space stands between words. Hex is lower case, `-` is no bytes; numbers are decimal, one to ten digits. A line
 // that begins with `#` is copied, an empty one stays empty, and any other line that is no call answers `?`.
-mod calls;
+mod answering;
 mod lines;
 mod parsing;
 mod report;

@@ -5,11 +5,11 @@ use crate::text::no_call;
 use crate::text::say;
 use crate::text::say_answer;
 use crate::text::say_number;
+use calls::judge_report;
+use calls::row_at;
 use house::House;
 use house::Reported;
 use house::Row;
-use house::judge_report;
-use house::row_at;
 ghost use Prim.Native.Nat.{_≤_};
 ghost use Rattle.house.specs.Report.{rowsOf};
 

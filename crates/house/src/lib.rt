@@ -1,22 +1,11 @@
 // The house: document 01, "The house, its slots and its rows". Sessions draw rows from one pool, and each has a floor
-// of rows that nothing another session does can take. Every call takes a house by value and gives one back, tests its
-// soundness and answers, whatever is handed in.
-pub mod calls;
-mod core;
-mod reports;
-mod rooms;
-mod sound;
-
+// of rows that nothing another session does can take. Here are its types; specs/ has the rules and what is proved of
+// them over any sequence of calls. The crate core does what they say over lent rows, the crate calls by value.
 use answers::Answer;
 use session::Session;
 use session::Standing;
 ghost use mathlib.Core.Path.{_≡_};
 ghost use Rattle.house.specs.House.{closedSlot, openedSlot, fresh};
-pub use core::deliver_lent;
-pub use reports::judge_report;
-pub use reports::report;
-pub use reports::row_at;
-pub use sound::is_sound;
 
 // A slot: closed, or a session with its floor.
 pub struct Slot {
@@ -81,7 +70,7 @@ pub struct Reported {
 }
 
 impl Slot {
-    fn closed() -> Slot
+    pub fn closed() -> Slot
         ensures { λ r. ⌜ r ≡ closedSlot ⌝ }
     {
         let session = Session::begin();
@@ -92,7 +81,7 @@ impl Slot {
         }
     }
 
-    fn opened(floor: u32) -> Slot
+    pub fn opened(floor: u32) -> Slot
         ensures { λ r. ⌜ r ≡ openedSlot floor ⌝ }
     {
         let session = Session::begin();

@@ -1,0 +1,175 @@
+// The calls: document 01, "The house, its slots and its rows", Calls, each with its order of checks. A refusal gives
+// the house back as it came: every call takes a house by value, tests its soundness and answers, whatever is handed in.
+mod reports;
+
+use answers::Answer;
+use core::deliver_lent;
+use core::is_sound;
+use core::promised_of;
+use core::unfilled_of;
+use house::Answered;
+use house::Figures;
+use house::House;
+use house::Room;
+use house::Slot;
+pub use reports::judge_report;
+pub use reports::report;
+pub use reports::row_at;
+use session::Session;
+ghost use mathlib.Core.Path.{_≡_};
+ghost use mathlib.Core.Bool.{true};
+ghost use Prim.Native.Nat.{_≤_, _<_};
+ghost use lib.ListN.{length};
+ghost use Rattle.house.specs.House.{sound, promised};
+ghost use Rattle.house.specs.Calls.{openSlot, closeSlot, deliver, figuresOf};
+ghost use Rattle.house.specs.Calls.{answered, slotAt, roomOf, deliveredTo, withOutcome};
+
+fn answer_with(answer: Answer, house: House) -> Answered
+    ensures { λ r. ⌜ r ≡ answered answer house ⌝ }
+{
+    Answered { answer, house }
+}
+
+// The rows promised by a sound house.
+fn promised_by(house: House) -> u32
+    requires { ⌜ sound house ≡ true ⌝ }
+    ensures { λ r. ⌜ (r ≡ promised house) × (r ≤ 1024) × (length (house .slots) ≡ 16) ⌝ }
+{
+    let h = house;
+    let slots = h.slots;
+    promised_of(slots, &h.keys, h.used)
+}
+
+// Opens a slot with a floor.
+pub fn open_slot(house: House, slot: u32, floor: u32) -> Answered
+    ensures { λ r. ⌜ r ≡ openSlot house slot floor ⌝ }
+{
+    if !is_sound(house) {
+        return answer_with(Answer::NotSound, house);
+    }
+    if 16 <= slot {
+        return answer_with(Answer::NoSuchSlot, house);
+    }
+    if 1024 < floor {
+        return answer_with(Answer::FloorTooHigh, house);
+    }
+    let mut h = house;
+    let i = slot as usize;
+    let s = h.slots[i];
+    if s.taken {
+        return answer_with(Answer::SlotTaken, h);
+    }
+    let free = 1024 - h.used as u32;
+    if free - promised_by(h) < floor {
+        return answer_with(Answer::NoRoom, h);
+    }
+    h.slots[i] = Slot::opened(floor);
+    answer_with(Answer::Done, h)
+}
+
+// Free and promised rows: the operator's reading.
+pub fn figures(house: House) -> Figures
+    ensures { λ r. ⌜ r ≡ figuresOf house ⌝ }
+{
+    if is_sound(house) {
+        let free = 1024 - house.used as u32;
+        let promised = promised_by(house);
+        return Figures {
+            answer: Answer::Done,
+            free,
+            promised,
+        };
+    }
+    Figures {
+        answer: Answer::NotSound,
+        free: 0,
+        promised: 0,
+    }
+}
+
+// Closes a slot: its rows return to free.
+pub fn close_slot(house: House, slot: u32) -> Answered
+    ensures { λ r. ⌜ r ≡ closeSlot house slot ⌝ }
+{
+    if !is_sound(house) {
+        return answer_with(Answer::NotSound, house);
+    }
+    if 16 <= slot {
+        return answer_with(Answer::NoSuchSlot, house);
+    }
+    let mut h = house;
+    let i = slot as usize;
+    let s = h.slots[i];
+    if !s.taken {
+        return answer_with(Answer::SlotClosed, h);
+    }
+    let mut keys = h.keys;
+    let mut counts = h.counts;
+    let used = rows::drop_slot(&mut keys, &mut counts, h.used, i);
+    h.keys = keys;
+    h.counts = counts;
+    h.used = used;
+    h.slots[i] = Slot::closed();
+    answer_with(Answer::Done, h)
+}
+
+// What a slot of a sound house sees of it.
+fn room_of(house: House, i: usize, s: Slot) -> Room
+    requires { ⌜ (sound house ≡ true) × (i < 16) × (s ≡ slotAt house i) ⌝ }
+    ensures { λ r. ⌜ (r ≡ roomOf house i) × (length (house .slots) ≡ 16) ⌝ }
+{
+    let h = house;
+    let all = promised_by(h);
+    let own = unfilled_of(i, s, &h.keys, h.used);
+    Room {
+        slot: i,
+        floor: s.floor,
+        others: all - own,
+    }
+}
+
+// Delivers one record to a slot.
+pub fn deliver(house: House, slot: u32, rec: &[u8]) -> Answered
+    ensures { λ r. ⌜ r ≡ deliver house slot (now (rec .entry)) ⌝ }
+{
+    if !is_sound(house) {
+        return answer_with(Answer::NotSound, house);
+    }
+    if 16 <= slot {
+        return answer_with(Answer::NoSuchSlot, house);
+    }
+    let h = house;
+    let i = slot as usize;
+    let s = h.slots[i];
+    if !s.taken {
+        return answer_with(Answer::SlotClosed, h);
+    }
+    deliver_to(h, i, s, rec)
+}
+
+// .. to an open slot of a sound house. The rows and the parts are lent, and laid back.
+fn deliver_to(house: House, i: usize, s: Slot, rec: &[u8]) -> Answered
+    requires { ⌜ (sound house ≡ true) × (i < 16) × (s ≡ slotAt house i) × (s .taken ≡ true) ⌝ }
+    ensures { λ r. ⌜ r ≡ withOutcome house i (deliveredTo house i (now (rec .entry))) ⌝ }
+{
+    let mut h = house;
+    let room = room_of(h, i, s);
+    let session = s.session;
+    let mut parts = session.parts;
+    let mut keys = h.keys;
+    let mut counts = h.counts;
+    let st = session.standing;
+    let d = deliver_lent(&mut keys, &mut counts, h.used, room, st, &mut parts, rec);
+    let answer = d.answer;
+    let standing = d.standing;
+    h.keys = keys;
+    h.counts = counts;
+    h.used = d.used;
+    let next = Session { standing, parts };
+    h.slots[i] = Slot {
+        taken: s.taken,
+        floor: s.floor,
+        session: next,
+    };
+    answer_with(answer, h)
+}

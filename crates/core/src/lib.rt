@@ -1,0 +1,10 @@
+// What the calls do inside, over lent rows and parts: is the house sound, what is promised, what a record does to a slot.
+// A caller that knows its house to be sound delivers here, record by record, with nothing tested twice or copied.
+mod delivering;
+mod rooms;
+mod sound;
+
+pub use delivering::deliver_lent;
+pub use rooms::promised_of;
+pub use rooms::unfilled_of;
+pub use sound::is_sound;

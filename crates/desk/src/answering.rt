@@ -1,0 +1,136 @@
+// The calls and their answers: each takes the house and gives back the house after it.
+use crate::parsing::Number;
+use crate::parsing::Verb;
+use crate::parsing::is_hex;
+use crate::parsing::is_no_bytes;
+use crate::parsing::number_of;
+use crate::parsing::unhex;
+use crate::parsing::verb_of;
+use crate::parsing::word_end;
+use crate::report::report_call;
+use crate::text::no_call;
+use crate::text::say;
+use crate::text::say_answer;
+use crate::text::say_number;
+use house::Answered;
+use house::House;
+ghost use Prim.Native.Nat.{_≤_};
+ghost use lib.ListN.{length};
+
+fn said(done: Answered) -> House {
+    let answer = done.answer;
+    say_answer(answer);
+    say(b"\n");
+    done.house
+}
+
+fn fresh_call() -> House {
+    say(b"0\n");
+    House::fresh()
+}
+
+fn open_call(house: House, slot: Number, floor: Number) -> House {
+    let Number::Is(s) = slot else {
+        return no_call(house);
+    };
+    let Number::Is(f) = floor else {
+        return no_call(house);
+    };
+    said(calls::open_slot(house, s, f))
+}
+
+fn close_call(house: House, slot: Number) -> House {
+    let Number::Is(s) = slot else {
+        return no_call(house);
+    };
+    said(calls::close_slot(house, s))
+}
+
+fn figures_call(house: House) -> House {
+    let found = calls::figures(house);
+    let answer = found.answer;
+    say_answer(answer);
+    if answers::number(answer) == 0 {
+        say(b" ");
+        say_number(found.free);
+        say(b" ");
+        say_number(found.promised);
+    }
+    say(b"\n");
+    house
+}
+
+// The record's digits stand from `from` on.
+fn deliver_call(house: House, slot: Number, line: &mut [u8], from: usize) -> House
+    requires { ⌜ from ≤ length (now line) ⌝ }
+{
+    let Number::Is(s) = slot else {
+        return no_call(house);
+    };
+    if is_no_bytes(&line[from..]) {
+        return said(calls::deliver(house, s, b""));
+    }
+    if !is_hex(&line[from..]) {
+        return no_call(house);
+    }
+    let n = unhex(line, from);
+    said(calls::deliver(house, s, &line[0..n]))
+}
+
+// A verb alone.
+fn answer_alone(house: House, verb: Verb) -> House {
+    match verb {
+        Verb::Fresh => fresh_call(),
+        Verb::Figures => figures_call(house),
+        _ => no_call(house),
+    }
+}
+
+// A verb with one word.
+fn answer_one(house: House, verb: Verb, word: &[u8]) -> House {
+    match verb {
+        Verb::Close => close_call(house, number_of(word)),
+        _ => no_call(house),
+    }
+}
+
+// A verb with a slot, and a second word that starts at `from`. No word that is taken has a space in it.
+fn answer_two(house: House, verb: Verb, slot: Number, line: &mut [u8], from: usize) -> House
+    requires { ⌜ from ≤ length (now line) ⌝ }
+{
+    match verb {
+        Verb::Open => open_call(house, slot, number_of(&line[from..])),
+        Verb::Deliver => deliver_call(house, slot, line, from),
+        Verb::Report => report_call(house, slot, number_of(&line[from..])),
+        _ => no_call(house),
+    }
+}
+
+fn answer_call(house: House, line: &mut [u8]) -> House {
+    let e = word_end(line, 0);
+    let verb = verb_of(&line[0..e]);
+    if e == line.len() {
+        return answer_alone(house, verb);
+    }
+    let a = e + 1;
+    let b = word_end(line, a);
+    if b == line.len() {
+        return answer_one(house, verb, &line[a..]);
+    }
+    let slot = number_of(&line[a..b]);
+    answer_two(house, verb, slot, line, b + 1)
+}
+
+// One line, without its LF.
+pub(crate) fn answer_line(house: House, line: &mut [u8]) -> House {
+    if line.len() == 0 {
+        say(b"\n");
+        return house;
+    }
+    if line[0] == b'#' {
+        say(line);
+        say(b"\n");
+        return house;
+    }
+    answer_call(house, line)
+}
