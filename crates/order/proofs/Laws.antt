@@ -1,7 +1,7 @@
 -- The statements of specs/Laws.antt, proved. A law of one row of the table serves every row: only its last two
 -- columns lead to the body and beyond.
 -- Assumes nothing.
-use mathlib.Core.Path.{_≡_, refl, subst}
+use mathlib.Core.Path.{_≡_, refl, ap, subst}
 use mathlib.Core.Bool.{Bool, true, false}
 use Prim.Native.Nat.{ℕ}
 use native.Mathlib.Omega.{arith}
@@ -13,7 +13,7 @@ use Rattle.order.specs.declared.Place.the-variants.{Start, Header, Lot, 
 use Rattle.order.specs.declared.Step.{Step}
 use Rattle.order.specs.declared.Step.the-variants.{To, OutOfPlace}
 use Rattle.order.specs.Order.{byKind, goes}
-use Rattle.order.specs.Laws.{before, ended, opening, BeforeByOpening, EndedByMrr, NeverBack}
+use Rattle.order.specs.Laws.{before, ended, opening, BeforeByOpening, EndedByMrr, NeverBack, NeverStart}
 
 -- ---- one row of the table
 
@@ -89,25 +89,25 @@ before-by-opening Setup q k e h = row-before _ _ _ _ _ _ _ ended-before body-bef
 before-by-opening Body q k e h = row-before _ _ _ _ _ _ _ ended-before body-before q k e h
 before-by-opening Ended q k e h = absurd (out-before q e h)
 
--- a row of which no column leads before the body
-module _ (far atr mir rdr sdr mrr other : Step) where
-  row-late : Never before far → Never before atr → Never before mir → Never before rdr → Never before sdr
-      → Never before mrr → Never before other
-      → (q : Place) (k : Kind) → byKind far atr mir rdr sdr mrr other k ≡ To q → before q ≡ true → ⊥
-  row-late f a m r s e o q Far = f q
-  row-late f a m r s e o q Atr = a q
-  row-late f a m r s e o q Mir = m q
-  row-late f a m r s e o q Rdr = r q
-  row-late f a m r s e o q Sdr = s q
-  row-late f a m r s e o q Mrr = e q
-  row-late f a m r s e o q Pcr = o q
-  row-late f a m r s e o q Hbr = o q
-  row-late f a m r s e o q Sbr = o q
-  row-late f a m r s e o q Pir = o q
-  row-late f a m r s e o q Prr = o q
-  row-late f a m r s e o q (Remaining k) = o q
-  row-late f a m r s e o q Custom = o q
-  row-late f a m r s e o q Unknown = o q
+-- a row of which no column leads to a place that meets a test
+module _ (test : Place → Bool) (far atr mir rdr sdr mrr other : Step) where
+  row-never : Never test far → Never test atr → Never test mir → Never test rdr → Never test sdr → Never test mrr
+      → Never test other
+      → (q : Place) (k : Kind) → byKind far atr mir rdr sdr mrr other k ≡ To q → test q ≡ true → ⊥
+  row-never f a m r s e o q Far = f q
+  row-never f a m r s e o q Atr = a q
+  row-never f a m r s e o q Mir = m q
+  row-never f a m r s e o q Rdr = r q
+  row-never f a m r s e o q Sdr = s q
+  row-never f a m r s e o q Mrr = e q
+  row-never f a m r s e o q Pcr = o q
+  row-never f a m r s e o q Hbr = o q
+  row-never f a m r s e o q Sbr = o q
+  row-never f a m r s e o q Pir = o q
+  row-never f a m r s e o q Prr = o q
+  row-never f a m r s e o q (Remaining k) = o q
+  row-never f a m r s e o q Custom = o q
+  row-never f a m r s e o q Unknown = o q
 
 pub never-back : NeverBack
 never-back Start q k e h = refl
@@ -116,7 +116,8 @@ never-back Lot q k e h = refl
 never-back Setup q k e h = refl
 never-back Body q k e h =
     absurd
-    (row-late _ _ _ _ _ _ _ out-before out-before out-before out-before out-before ended-before body-before q k e h)
+    (row-never before _ _ _ _ _ _ _ out-before out-before out-before out-before out-before ended-before body-before q
+    k e h)
 never-back Ended q k e h = absurd (out-before q e h)
 
 out-ended : Never ended OutOfPlace
@@ -138,3 +139,37 @@ ended-by-mrr Setup q k e h =
 ended-by-mrr Body q k e h =
     row-ended _ _ _ _ _ _ _ out-ended out-ended out-ended out-ended out-ended (to-ended Body refl) q k e h
 ended-by-mrr Ended q k e h = absurd (out-ended q e h)
+
+-- ---- the start
+
+abbrev start : Place → Bool
+start Start = true
+start Header = false
+start Lot = false
+start Setup = false
+start Body = false
+start Ended = false
+
+none : Never start OutOfPlace
+none = never-out start
+
+to-start : (p : Place) → start p ≡ false → Never start (To p)
+to-start p f = never-to start p f
+
+-- a row's columns that lead anywhere lead past the start
+never-start-at : (p q : Place) (k : Kind) → goes p k ≡ To q → start q ≡ true → ⊥
+never-start-at Start q k = row-never start _ _ _ _ _ _ _ (to-start Header refl) none none none none none none q k
+never-start-at Header q k =
+    row-never start _ _ _ _ _ _ _ none (to-start Header refl) (to-start Lot refl) none none none none q k
+never-start-at Lot q k =
+    row-never start _ _ _ _ _ _ _ none none none (to-start Setup refl) (to-start Setup refl) (to-start Ended refl)
+    (to-start Body refl) q k
+never-start-at Setup q k =
+    row-never start _ _ _ _ _ _ _ none none none none (to-start Setup refl) (to-start Ended refl) (to-start Body refl)
+    q k
+never-start-at Body q k =
+    row-never start _ _ _ _ _ _ _ none none none none none (to-start Ended refl) (to-start Body refl) q k
+never-start-at Ended q k = none q
+
+pub never-start : NeverStart
+never-start p q k e h = never-start-at p q k e (ap start h)

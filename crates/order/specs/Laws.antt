@@ -57,3 +57,7 @@ EndedByMrr = (p q : Place) (k : Kind) → goes p k ≡ To q → ended q ≡ true
 -- a stream that has its body behind it or is in it does not come before it again
 abbrev pub NeverBack : Type 0
 NeverBack = (p q : Place) (k : Kind) → goes p k ≡ To q → before q ≡ true → before p ≡ true
+
+-- nothing leads back to the start, where the first record is awaited
+abbrev pub NeverStart : Type 0
+NeverStart = (p q : Place) (k : Kind) → goes p k ≡ To q → q ≡ Start → ⊥

@@ -30,7 +30,7 @@ side {C} x k low high = go (ltb x k) refl
     go false e = high (ltb-false x k e)
 
 -- a key stands below a slot's keys, among them, or above: the way every argument by the ranks goes
-apart : {C : Type 0} (s x : ℕ) → (x < rowKey s 0 → C) → (rowKey s 0 ≤ x → x < rowKey (suc s) 0 → C)
+pub apart : {C : Type 0} (s x : ℕ) → (x < rowKey s 0 → C) → (rowKey s 0 ≤ x → x < rowKey (suc s) 0 → C)
     → (rowKey (suc s) 0 ≤ x → C) → C
 apart s x low own high = side x (rowKey s 0) low (λ (h : rowKey s 0 ≤ x). side x (rowKey (suc s) 0) (own h) high)
 
@@ -42,7 +42,7 @@ same-or {C} a b same other = go (eqb a b) refl
     go true e = same (eqb-true a b e)
     go false e = other (eqb-false a b e)
 
-rising-head : (b x : ℕ) (xs : List ℕ) → risingFrom b (x ∷ xs) ≡ true → b ≤ x
+pub rising-head : (b x : ℕ) (xs : List ℕ) → risingFrom b (x ∷ xs) ≡ true → b ≤ x
 unfolding risingFrom
 rising-head b x xs e = leb-true b x (both-left (leb b x) (risingFrom (suc x) xs) e)
 
@@ -51,7 +51,7 @@ unfolding risingFrom
 rising-rest b x xs e = both-right (leb b x) (risingFrom (suc x) xs) e
 
 -- a key that no element is below has the rank 0
-rank-none : (b k : ℕ) (xs : List ℕ) → risingFrom b xs ≡ true → k ≤ b → rank k xs ≡ 0
+pub rank-none : (b k : ℕ) (xs : List ℕ) → risingFrom b xs ≡ true → k ≤ b → rank k xs ≡ 0
 unfolding rank
 rank-none b k [] e h = refl
 rank-none b k (x ∷ xs) e h =

@@ -3,13 +3,15 @@
 -- Assumes nothing.
 use mathlib.Core.Path.{_≡_}
 use mathlib.Core.Bool.{Bool, true, false, cond, _||_}
-use mathlib.Core.List.{List}
-use Prim.Native.Nat.{ℕ, suc, _+_, _≤_, _<_}
+use mathlib.Core.List.{List, []}
+use Prim.Native.Nat.{ℕ, suc, _+_, _%_, _≤_, _<_}
 use lib.Dec.{eqb}
 use lib.ListN.{length, getD, take, set}
 use Rattle.rising.specs.Rising.{rising, rank, held, inserted, removed}
 use Rattle.rows.specs.Rows.{slotCount, slotOf, heldBy, heldFrom, sumBy, rowRight, rowsRight, slotRank, slotRun}
 use Rattle.rows.specs.Rows.{Kept, keysUsed, countsUsed, countedMore, countedNew, counted, slotDropped}
+use Rattle.rows.specs.Rows.{slotSpan, rowKey}
+use Rattle.rows.specs.Counts.{Count, count, plus, has, rowsBy}
 
 -- ---- how many rows a slot holds, and what they sum to
 
@@ -232,3 +234,34 @@ DroppedRight = (taken : List Bool) (keys counts : List ℕ) (used slot : ℕ) �
     → rowsRight taken (take used keys) (take used counts) ≡ true
     → rowsRight (set taken slot false) (keysUsed (slotDropped keys counts used slot))
     (countsUsed (slotDropped keys counts used slot)) ≡ true
+
+-- ---- a slot's rows as a list
+
+-- one part more under a key is one part more of its slot's rows, and none of another's
+abbrev pub CountedRowsBy : Type 0
+CountedRowsBy = (s : ℕ) (keys counts : List ℕ) (used key : ℕ) → Kept keys counts used
+    → (held key (take used keys) ≡ false → used < length keys)
+    → rowsBy s (keysUsed (counted keys counts used key)) (countsUsed (counted keys counts used key))
+    ≡ cond (eqb (slotOf key) s) (plus (key % slotSpan) (rowsBy s (take used keys) (take used counts)))
+    (rowsBy s (take used keys) (take used counts))
+
+-- a slot's rows returned are gone, and another's are as they were
+abbrev pub DroppedRowsBy : Type 0
+DroppedRowsBy = (s : ℕ) (keys counts : List ℕ) (used slot : ℕ) → Kept keys counts used
+    → rowsBy s (keysUsed (slotDropped keys counts used slot)) (countsUsed (slotDropped keys counts used slot))
+    ≡ cond (eqb s slot) [] (rowsBy s (take used keys) (take used counts))
+
+-- there are as many as the slot holds
+abbrev pub RowsHeldBy : Type 0
+RowsHeldBy = (s : ℕ) (ks cs : List ℕ) → length cs ≡ length ks → length (rowsBy s ks cs) ≡ heldBy s ks
+
+-- .. and they have the keys that it holds
+abbrev pub RowsHas : Type 0
+RowsHas = (s : ℕ) (ks cs : List ℕ) (key : ℕ) → length cs ≡ length ks → key < slotSpan
+    → has key (rowsBy s ks cs) ≡ held (rowKey s key) ks
+
+-- the i-th of them stands i places after the slot's first
+abbrev pub RowsAt : Type 0
+RowsAt = (s : ℕ) (ks cs : List ℕ) (i : ℕ) (none : Count) → rising ks ≡ true → length cs ≡ length ks → i < heldBy s ks
+    → getD (rowsBy s ks cs) i none
+    ≡ count (getD ks (slotRank s ks + i) 0 % slotSpan) (getD cs (slotRank s ks + i) 0)

@@ -2,7 +2,7 @@
 -- cases` and `said-cases` say so once, and each law is shown of the six.
 -- Assumes nothing.
 use mathlib.Core.Path.{_≡_, refl, ap, sym, subst, _∙_}
-use mathlib.Core.Bool.{Bool, true, false, cond, not, _&&_}
+use mathlib.Core.Bool.{Bool, true, false, cond, not, _&&_, false≢true}
 use mathlib.Core.List.{List}
 use Prim.Native.Nat.{ℕ, _+_, _-_, _*_, _/_, _%_, _≤_, _<_}
 use native.Mathlib.Numerals.{add-one}
@@ -41,7 +41,7 @@ use Rattle.order.specs.declared.Step.{Step}
 use Rattle.order.specs.declared.Step.the-variants.{To, OutOfPlace}
 use Rattle.order.specs.Order.{goes, inPlace, placeAfter}
 use Rattle.order.specs.Laws.{before, ended, opening}
-use Rattle.order.proofs.Laws.{before-by-opening, ended-by-mrr, never-back}
+use Rattle.order.proofs.Laws.{before-by-opening, ended-by-mrr, never-back, never-start}
 use Rattle.rising.specs.Rising.{risingFrom, rising, rank, held, allBelow, inserted, removed, insertAt, removeAt}
 use Rattle.rising.proofs.Laws.{rank-within, held-rank, rising-insert, rising-remove, below-insert, below-remove}
 use Rattle.rising.proofs.Laws.{insert-taken, insert-length, remove-taken, remove-length}
@@ -54,8 +54,11 @@ use Rattle.session.specs.Session.{nothingYet, standsRight, partsRight, s
 use Rattle.session.specs.Judge.{inOrder, judgeIn, judgeOrdered, judgeFirst, at, withPcr, withPart, withResult}
 use Rattle.session.specs.Judge.{judgePir, judgePrr, judgeMrr, judgeSaid, judgeLater, judge}
 use Rattle.session.specs.After.{after, verdictOn}
+use Rattle.session.specs.Results.{Result, None, Part, resultIn, resultRead, resultOf, ordered, orderIn, ofRecord}
 use Rattle.session.specs.Laws.{counted, Within, KeyRight, SoundKept, JudgedWithin, JudgedSound, JudgedCounts}
-use Rattle.session.specs.Laws.{JudgedFew, JudgedKey, JudgedLong, BegunSound}
+use Rattle.session.specs.Laws.{JudgedFew, JudgedKey, JudgedLong, BegunSound, Begins, Tells, JudgedBegins}
+use Rattle.session.specs.Laws.{JudgedTells, JudgedRefusal}
+use Rattle.session.proofs.Laws.{judge-at-start, judge-further}
 
 -- ---- the ways to be accepted
 
@@ -76,31 +79,32 @@ quiet (said.Pcr p) = false
 quiet (said.Pir p) = false
 quiet (said.Prr p) = false
 
-module _ (P : Verdict → Type 0) (refused : (a : Answer) → P (Refused a)) where
-  first-cases : (st : Standing) (rec : List ℕ) → ((order : Order) → P (Taken (inOrder st order)))
+module _ (P : Verdict → Type 0) (refused : (a : Answer) → ofRecord a ≡ true → P (Refused a)) where
+  first-cases : (st : Standing) (rec : List ℕ)
+      → ((order : Order) → orderIn rec ≡ order → P (Taken (inOrder st order)))
       → P (judgeFirst st rec)
   unfolding judgeFirst judgeIn
   first-cases st rec taken =
-      checked P answer.NotOneRecord (leb header (length rec)) _ (refused answer.NotOneRecord) (λ _.
-      checked P answer.OutOfPlace (eqb (recTyp rec) 0 && eqb (recSub rec) 10) _ (refused answer.OutOfPlace) (λ _.
-      checked P answer.NotOneRecord (eqb (length rec) 6) _ (refused answer.NotOneRecord) (λ _.
-      by-order (orderOf (byteOf far 0 (body rec))))))
+      checked P answer.NotOneRecord (leb header (length rec)) _ (refused answer.NotOneRecord refl) (λ _.
+      checked P answer.OutOfPlace (eqb (recTyp rec) 0 && eqb (recSub rec) 10) _ (refused answer.OutOfPlace refl) (λ _.
+      checked P answer.NotOneRecord (eqb (length rec) 6) _ (refused answer.NotOneRecord refl) (λ _.
+      by-order (orderOf (byteOf far 0 (body rec))) refl)))
     where
-      by-order : (o : Ordering) → P (judgeOrdered st rec o)
-      by-order ordering.Unknown = refused answer.UnknownOrder
-      by-order (ordering.Known order) =
-          checked P answer.NotOneRecord (eqb (recLen order rec) 2) _ (refused answer.NotOneRecord) (λ _.
-          checked P answer.WrongVersion (eqb (byteOf far 1 (body rec)) 4) _ (refused answer.WrongVersion) (λ _.
-          taken order))
+      by-order : (o : Ordering) → orderOf (byteOf far 0 (body rec)) ≡ o → P (judgeOrdered st rec o)
+      by-order ordering.Unknown told = refused answer.UnknownOrder refl
+      by-order (ordering.Known order) told =
+          checked P answer.NotOneRecord (eqb (recLen order rec) 2) _ (refused answer.NotOneRecord refl) (λ _.
+          checked P answer.WrongVersion (eqb (byteOf far 1 (body rec)) 4) _ (refused answer.WrongVersion refl) (λ _.
+          taken order (ap ordered told)))
 
   later-cases : (st : Standing) (parts rec : List ℕ)
-      → ((k : Kind) (q : Place) (r : Record) → goes (st .place) k ≡ To q → readBody (st .order) k (body rec) ≡ Fits r
-      → P (judgeSaid (at st q) parts r))
+      → ((k : Kind) (q : Place) (r : Record) → kindOf (recTyp rec) (recSub rec) ≡ k → goes (st .place) k ≡ To q
+      → readBody (st .order) k (body rec) ≡ Fits r → P (judgeSaid (at st q) parts r))
       → P (judgeLater st parts rec)
   unfolding judgeLater
   later-cases st parts rec accepted =
-      checked P answer.NotOneRecord (isRecord (st .order) rec) _ (refused answer.NotOneRecord) (λ _.
-      checked P answer.UnknownKind (known named) _ (refused answer.UnknownKind) (λ _.
+      checked P answer.NotOneRecord (isRecord (st .order) rec) _ (refused answer.NotOneRecord refl) (λ _.
+      checked P answer.UnknownKind (known named) _ (refused answer.UnknownKind refl) (λ _.
       by-step (goes (st .place) named) (readBody (st .order) named (body rec)) refl refl))
     where
       named : Kind
@@ -111,14 +115,14 @@ module _ (P : Verdict → Type 0) (refused : (a : Answer) → P (Refused a)) whe
           → P (Refused answer.OutOfPlace unless inPlace step then
           Refused answer.BodyMisfit unless fitting reading then
           judgeSaid (at st (placeAfter step)) parts (saidOf reading))
-      by-step OutOfPlace reading e f = refused answer.OutOfPlace
-      by-step (To q) Misfit e f = refused answer.BodyMisfit
-      by-step (To q) (Fits r) e f = accepted named q r e f
+      by-step OutOfPlace reading e f = refused answer.OutOfPlace refl
+      by-step (To q) Misfit e f = refused answer.BodyMisfit refl
+      by-step (To q) (Fits r) e f = accepted named q r refl e f
 
   judge-cases : (st : Standing) (parts rec : List ℕ)
-      → ((order : Order) → isStart (st .place) ≡ true → P (Taken (inOrder st order)))
-      → ((k : Kind) (q : Place) (r : Record) → goes (st .place) k ≡ To q → readBody (st .order) k (body rec) ≡ Fits r
-      → P (judgeSaid (at st q) parts r))
+      → ((order : Order) → isStart (st .place) ≡ true → orderIn rec ≡ order → P (Taken (inOrder st order)))
+      → ((k : Kind) (q : Place) (r : Record) → kindOf (recTyp rec) (recSub rec) ≡ k → goes (st .place) k ≡ To q
+      → readBody (st .order) k (body rec) ≡ Fits r → P (judgeSaid (at st q) parts r))
       → P (judge st parts rec)
   unfolding judge
   judge-cases st parts rec first later = go (isStart (st .place)) refl
@@ -140,15 +144,16 @@ module _ (P : Verdict → Type 0) (refused : (a : Answer) → P (Refused a)) whe
   unfolding judgePir judgePrr judgeMrr
   said-cases st parts (said.Pir p) taken pcr pir prr mrr =
       let part = partOf (p .head) (p .site) in
-      checked P answer.PartOpen (not (held part parts)) _ (refused answer.PartOpen) (λ new.
-      checked P answer.TooManyParts (ltb (st .opened) mostOpen) _ (refused answer.TooManyParts) (λ few.
+      checked P answer.PartOpen (not (held part parts)) _ (refused answer.PartOpen refl) (λ new.
+      checked P answer.TooManyParts (ltb (st .opened) mostOpen) _ (refused answer.TooManyParts refl) (λ few.
       pir p refl (not-true (held part parts) new) (ltb-true (st .opened) mostOpen few)))
   said-cases st parts (said.Prr p) taken pcr pir prr mrr =
-      checked P answer.PartNotOpen (held (partOf (p .head) (p .site)) parts) _ (refused answer.PartNotOpen) (λ there.
-      checked P answer.TooManyResults (ltb (st .results) mostResults) _ (refused answer.TooManyResults) (λ few.
+      let part = partOf (p .head) (p .site) in
+      checked P answer.PartNotOpen (held part parts) _ (refused answer.PartNotOpen refl) (λ there.
+      checked P answer.TooManyResults (ltb (st .results) mostResults) _ (refused answer.TooManyResults refl) (λ few.
       prr p refl there (ltb-true (st .results) mostResults few)))
   said-cases st parts said.Mrr taken pcr pir prr mrr =
-      checked P answer.NotFinished (eqb (st .opened) 0 && st .pcr) _ (refused answer.NotFinished) (λ done.
+      checked P answer.NotFinished (eqb (st .opened) 0 && st .pcr) _ (refused answer.NotFinished refl) (λ done.
       mrr refl done)
   said-cases st parts (said.Pcr p) taken pcr pir prr mrr = pcr p refl
   said-cases st parts (said.Far f) taken pcr pir prr mrr = taken refl
@@ -215,9 +220,9 @@ opened-long s long e = length-take-le (s .standing .opened) (s .parts) (omega (a
 
 pub judged-within : JudgedWithin
 judged-within st cells rec k =
-    judge-cases (Within (st .opened)) (λ a. tt) st parts rec (λ order h. tt)
-    (λ kind q r h f.
-    said-cases (Within (st .opened)) (λ a. tt) (at st q) parts r (λ t. tt) (λ p t. tt)
+    judge-cases (Within (st .opened)) (λ a own. tt) st parts rec (λ order h is. tt)
+    (λ kind q r is h f.
+    said-cases (Within (st .opened)) (λ a own. tt) (at st q) parts r (λ t. tt) (λ p t. tt)
     (λ p t new few. (omega (arith, rank-within (partOf (p .head) (p .site)) parts, long), few))
     (λ p t there few. omega (arith, held-rank (partOf (p .head) (p .site)) parts (k .rises) there .0, long))
     (λ t done. tt))
@@ -233,9 +238,9 @@ judged-within st cells rec k =
 pub judged-counts : JudgedCounts
 unfolding after
 judged-counts s rec =
-    judge-cases Counts (λ a. omega arith) (s .standing) (partsOf s) rec (λ order h. omega arith)
-    (λ k q r h f.
-    said-cases Counts (λ a. omega arith) (at (s .standing) q) (partsOf s) r (λ t. omega arith) (λ p t. omega arith)
+    judge-cases Counts (λ a own. omega arith) (s .standing) (partsOf s) rec (λ order h is. omega arith)
+    (λ k q r is h f.
+    said-cases Counts (λ a own. omega arith) (at (s .standing) q) (partsOf s) r (λ t. omega arith) (λ p t. omega arith)
     (λ p t new few. omega arith) (λ p t there few. refl) (λ t done. omega arith))
   where
     Counts : Verdict → Type 0
@@ -244,9 +249,9 @@ judged-counts s rec =
 pub judged-few : JudgedFew
 unfolding after
 judged-few s rec low =
-    judge-cases Few (λ a. low) (s .standing) (partsOf s) rec (λ order h. low)
-    (λ k q r h f.
-    said-cases Few (λ a. low) (at (s .standing) q) (partsOf s) r (λ t. low) (λ p t. low) (λ p t new few. low)
+    judge-cases Few (λ a own. low) (s .standing) (partsOf s) rec (λ order h is. low)
+    (λ k q r is h f.
+    said-cases Few (λ a own. low) (at (s .standing) q) (partsOf s) r (λ t. low) (λ p t. low) (λ p t new few. low)
     (λ p t there few. omega (arith, few)) (λ t done. low))
   where
     Few : Verdict → Type 0
@@ -259,9 +264,9 @@ body-bytes rec h k = rw (getD-drop 4 rec k 0) (h (4 + k))
 
 pub judged-key : JudgedKey
 judged-key s rec bytes =
-    judge-cases KeyRight (λ a. tt) (s .standing) (partsOf s) rec (λ order h. tt)
-    (λ k q r h f.
-    said-cases KeyRight (λ a. tt) (at (s .standing) q) (partsOf s) r (λ t. tt) (λ p t. tt) (λ p t new few. tt)
+    judge-cases KeyRight (λ a own. tt) (s .standing) (partsOf s) rec (λ order h is. tt)
+    (λ k q r is h f.
+    said-cases KeyRight (λ a own. tt) (at (s .standing) q) (partsOf s) r (λ t. tt) (λ p t. tt) (λ p t new few. tt)
     (λ p t there few.
     let told = said-right (s .standing .order) k (body rec) r (body-bytes rec bytes) f in
     let right : Right (said.Prr p) = subst Right t told in
@@ -273,9 +278,9 @@ judged-key s rec bytes =
 pub judged-long : JudgedLong
 unfolding after
 judged-long s rec long e =
-    judge-cases Long (λ a. long) (s .standing) (partsOf s) rec (λ order h. long)
-    (λ k q r h f.
-    said-cases Long (λ a. long) (at (s .standing) q) (partsOf s) r (λ t. long) (λ p t. long)
+    judge-cases Long (λ a own. long) (s .standing) (partsOf s) rec (λ order h is. long)
+    (λ k q r is h f.
+    said-cases Long (λ a own. long) (at (s .standing) q) (partsOf s) r (λ t. long) (λ p t. long)
     (λ p t new few.
     let part = partOf (p .head) (p .site) in
     insert-length (s .parts) (s .standing .opened) (rank part (partsOf s)) part
@@ -405,17 +410,17 @@ module _ (s : Session) (long : length (s .parts) ≡ mostOpen) (e : sound s ≡ 
 pub judged-sound : JudgedSound
 unfolding after
 judged-sound s rec bytes long e =
-    judge-cases Sound (λ a. e) (s .standing) (partsOf s) rec
-    (λ order h.
+    judge-cases Sound (λ a own. e) (s .standing) (partsOf s) rec
+    (λ order h is.
     sound-right (after s (Taken (inOrder (s .standing) order))) (right s long e)
     (yet (start-before (s .standing .place) h)))
-    (λ k q r to fits.
+    (λ k q r named to fits.
     let order = s .standing .order in
     let place = s .standing .place in
     let next = at (s .standing) q in
     let b = body rec in
     let said-part : Right r = said-right order k b r (body-bytes rec bytes) fits in
-    said-cases Sound (λ a. e) next (partsOf s) r
+    said-cases Sound (λ a own. e) next (partsOf s) r
     (λ quieted.
     sound-right (after s (Taken next)) (right s long e)
     (stands-from q next (λ h. yet (never-back place q k to h))
@@ -447,3 +452,57 @@ judged-sound s rec bytes long e =
 
     yet : before (s .standing .place) ≡ true → nothingYet (s .standing) ≡ true
     yet h = stands-before (s .standing .place) (s .standing) (sound-stands-told s e) h
+
+-- ---- what a verdict tells of a record
+
+pub judged-begins : JudgedBegins
+judged-begins st parts rec start =
+    subst (Begins rec) (sym (judge-at-start st parts rec start))
+    (first-cases (Begins rec) (λ a own. tt) st rec (λ order is. (refl, sym is)))
+
+past-start : (q : Place) → (q ≡ Start → ⊥) → isStart q ≡ false
+past-start Start h = absurd (h refl)
+past-start Header h = refl
+past-start Lot h = refl
+past-start Setup h = refl
+past-start Body h = refl
+past-start Ended h = refl
+
+quiet-none : (r : Record) → quiet r ≡ true → resultIn r ≡ None
+quiet-none (said.Far f) h = refl
+quiet-none said.Mir h = refl
+quiet-none (said.Bin b) h = refl
+quiet-none said.Unread h = refl
+quiet-none said.Mrr h = refl
+quiet-none (said.Pcr p) h = refl
+quiet-none (said.Pir p) h = refl
+quiet-none (said.Prr p) h = absurd (false≢true h)
+
+pub judged-tells : JudgedTells
+judged-tells st parts rec further =
+    subst (Tells (st .order) rec) (sym (judge-further st parts rec further))
+    (later-cases (Tells (st .order) rec) (λ a own. tt) st parts rec (λ k q r named to fits.
+    let past = past-start q (never-start (st .place) q k to) in
+    let result : resultOf (st .order) rec ≡ resultIn r =
+    ap (λ (j : Kind). resultRead (readBody (st .order) j (body rec))) named ∙ ap resultRead fits in
+    said-cases (Tells (st .order) rec) (λ a own. tt) (at st q) parts r
+    (λ quieted. (result ∙ quiet-none r quieted, (past, refl)))
+    (λ p is. (result ∙ ap resultIn is, (past, refl)))
+    (λ p is new few. (result ∙ ap resultIn is, (past, refl)))
+    (λ p is there few. (result ∙ ap resultIn is, (past, refl)))
+    (λ is done. (result ∙ ap resultIn is, (past, refl)))))
+
+-- a verdict that is a refusal is one with a record's own number
+abbrev Own : Verdict → Type 0
+Own (Refused a) = ofRecord a ≡ true
+Own (Taken st) = Unit
+Own (Opened st rank part) = Unit
+Own (Wanted st rank key) = Unit
+
+pub judged-refusal : JudgedRefusal
+judged-refusal st parts rec a e =
+    subst Own e
+    (judge-cases Own (λ b own. own) st parts rec (λ order h is. tt)
+    (λ k q r named to fits.
+    said-cases Own (λ b own. own) (at st q) parts r (λ quieted. tt) (λ p is. tt) (λ p is new few. tt)
+    (λ p is there few. tt) (λ is done. tt)))

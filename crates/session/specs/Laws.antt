@@ -4,20 +4,24 @@
 --   counted    how many part results a verdict counts, if its row is granted
 --   Within     that a part opens and closes among the open ones
 --   KeyRight   that a key is one of a row: head at most 254, bin at most 32,767
+--   Begins     what a verdict on a first record tells, and Tells, on a later one
 -- Assumes nothing.
 use mathlib.Core.Path.{_≡_}
-use mathlib.Core.Bool.{true}
+use mathlib.Core.Bool.{true, false}
 use mathlib.Core.List.{List}
 use Prim.Native.Nat.{ℕ, _+_, _/_, _%_, _≤_, _<_}
 use lib.ListN.{length, take}
 use Rattle.numbers.specs.Laws.{Bytes}
+use Rattle.answers.specs.declared.Answer.{Answer}
+use Rattle.numbers.specs.declared.Order.{Order}
 use Rattle.session.specs.declared.Session.{Session}
 use Rattle.session.specs.declared.Standing.{Standing}
 use Rattle.session.specs.declared.Verdict.{Verdict}
 use Rattle.session.specs.declared.Verdict.the-variants.{Refused, Taken, Opened, Wanted}
-use Rattle.session.specs.Session.{mostOpen, mostResults, pastParts, begun, sound, Kept}
+use Rattle.session.specs.Session.{mostOpen, mostResults, pastParts, isStart, begun, sound, Kept}
 use Rattle.session.specs.Judge.{judge}
 use Rattle.session.specs.After.{after, verdictOn}
+use Rattle.session.specs.Results.{None, Part, resultOf, orderIn, ofRecord}
 
 abbrev pub counted : Verdict → ℕ
 counted (Refused a) = 0
@@ -73,3 +77,35 @@ JudgedLong = (s : Session) (rec : List ℕ) → length (s .parts) ≡ mostOpen �
 -- a session that has followed nothing is sound
 abbrev pub BegunSound : Type 0
 BegunSound = sound begun ≡ true
+
+-- ---- what a verdict tells of a record
+
+-- a stream that has begun, in a byte order
+abbrev pub Follows : Order → Standing → Type 0
+Follows order st = (isStart (st .place) ≡ false) × (st .order ≡ order)
+
+abbrev pub Begins : List ℕ → Verdict → Type 0
+Begins rec (Refused a) = Unit
+Begins rec (Taken next) = Follows (orderIn rec) next
+Begins rec (Opened next rank part) = ⊥
+Begins rec (Wanted next rank key) = ⊥
+
+abbrev pub Tells : Order → List ℕ → Verdict → Type 0
+Tells order rec (Refused a) = Unit
+Tells order rec (Taken next) = (resultOf order rec ≡ None) × Follows order next
+Tells order rec (Opened next rank part) = (resultOf order rec ≡ None) × Follows order next
+Tells order rec (Wanted next rank key) = (resultOf order rec ≡ Part key) × Follows order next
+
+-- the first record that is accepted tells the order of the stream
+abbrev pub JudgedBegins : Type 0
+JudgedBegins = (st : Standing) (parts rec : List ℕ) → isStart (st .place) ≡ true → Begins rec (judge st parts rec)
+
+-- a later one asks for a row exactly if it is a part result, and under that result's key
+abbrev pub JudgedTells : Type 0
+JudgedTells = (st : Standing) (parts rec : List ℕ) → isStart (st .place) ≡ false
+    → Tells (st .order) rec (judge st parts rec)
+
+-- a record by itself is refused with its own numbers alone
+abbrev pub JudgedRefusal : Type 0
+JudgedRefusal = (st : Standing) (parts rec : List ℕ) (a : Answer) → judge st parts rec ≡ Refused a
+    → ofRecord a ≡ true

@@ -1,4 +1,5 @@
 pub mod Session
 pub mod Judge
 pub mod After
+pub mod Results
 pub mod Laws
