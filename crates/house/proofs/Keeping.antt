@@ -41,9 +41,10 @@ use Rattle.house.specs.Deliver.{Outcome, core, outcome, granted, rowed, 
 use Rattle.house.specs.Deliver.{delivered, LentCore}
 use Rattle.house.specs.Calls.{slotAt, withSlot, answered, openSlot, closed, closeSlot, roomOf, withOutcome}
 use Rattle.house.specs.Calls.{deliveredTo, deliver}
-use Rattle.house.specs.Laws as laws
 use Rattle.house.specs.Laws.{Shaped, FreshSound, OpenKeeps, CloseKeeps, DeliverKeeps, BelowFloor}
-use Rattle.house.specs.Laws.{Call, Open, Deliver, Close, reached, Sent, AllSent, ReachedSound}
+use Rattle.house.specs.Laws.{ReachedSound}
+use Rattle.house.specs.History as calls
+use Rattle.house.specs.History.{Call, Open, Deliver, Report, Close, Figured, reached, Sent, AllSent}
 use Rattle.house.proofs.Calling.{OpenSlot, open-told, slots-at, unfilled-within, lent-core}
 use Rattle.house.proofs.Calling.{told-within, told-rows, told-slots, told-rooms}
 use Rattle.house.proofs.Delivering.{granted-room}
@@ -168,7 +169,7 @@ fresh-sound = refl
 -- ---- open
 
 -- a check that refuses leaves the house as it was, and so what is known of it
-unless-by : (P : House → Type 0) (a : Answered) (t : Bool) (b : Answered) → P (a .house) → (t ≡ true → P (b .house))
+pub unless-by : (P : House → Type 0) (a : Answered) (t : Bool) (b : Answered) → P (a .house) → (t ≡ true → P (b .house))
     → P ((a unless t then b) .house)
 unless-by P a true b kept f = f refl
 unless-by P a false b kept f = kept
@@ -178,7 +179,7 @@ unless-keeps : (a : Answered) (t : Bool) (b : Answered) → sound (a .house) ≡
 unless-keeps = unless-by (λ (h : House). sound h ≡ true)
 
 module _ (h : House) (slot : ℕ) (shape : Shaped h) (e : sound h ≡ true) (inside : slot < slotCount) where
-  keys-kept : Kept (h .keys) (h .counts) (h .used)
+  pub keys-kept : Kept (h .keys) (h .counts) (h .used)
   keys-kept =
       record {
         fits = omega (arith, told-within h e, shape .keys);
@@ -186,7 +187,7 @@ module _ (h : House) (slot : ℕ) (shape : Shaped h) (e : sound h ≡ true) (ins
         rises = told-rises h e;
       }
 
-  there : slot < length (h .slots)
+  pub there : slot < length (h .slots)
   there = omega (arith, inside, shape .slots)
 
   opened-sound : (floor : ℕ) → floor ≤ rowCount → slotAt h slot .taken ≡ false → floor ≤ free h - promised h
@@ -256,14 +257,14 @@ close-keeps h slot shape e =
 -- ---- deliver
 
 -- what a slot's session becomes, its rows as they were
-abbrev withSession : Slot → Session → Slot
+abbrev pub withSession : Slot → Session → Slot
 withSession s ses = record { taken = s .taken; floor = s .floor; session = ses }
 
 -- a row's key: its slot, its head and its bin
-key-low : (key : ℕ) → key / 65536 < pastParts → key < 4_278_190_080
+pub key-low : (key : ℕ) → key / 65536 < pastParts → key < 4_278_190_080
 key-low key h = omega (arith, h)
 
-key-slot : (slot key : ℕ) → key < 4_278_190_080 → slotOf (rowKey slot key) ≡ slot
+pub key-slot : (slot key : ℕ) → key < 4_278_190_080 → slotOf (rowKey slot key) ≡ slot
 key-slot slot key h = omega (arith, h)
 
 key-head : (slot key : ℕ) → key < 4_278_190_080 → headOf (rowKey slot key) ≤ mostHead
@@ -346,7 +347,7 @@ module _ (h : House) (slot : ℕ) (shape : Shaped h) (e : sound h ≡ true) (ins
     found : held row keys ≡ false → h .used < rowCount
     found new = granted-room (roomOf h slot) (h .keys) (h .counts) (h .used) row (lent .rows) got new
 
-    room : held row keys ≡ false → h .used < length (h .keys)
+    pub room : held row keys ≡ false → h .used < length (h .keys)
     room new = omega (arith, found new, shape .keys)
 
     own : slotOf row ≡ slot
@@ -536,7 +537,7 @@ below-floor h slot rec st rank key e inside t asks low =
 
 -- ---- the shape of a house
 
-fresh-shaped : Shaped fresh
+pub fresh-shaped : Shaped fresh
 fresh-shaped = record { keys = refl; counts = refl; slots = refl; parts = closed-at slotCount }
   where
     closed-at : (n i : ℕ) → i < n → length (getD (replicate n closedSlot) i noSlot .session .parts) ≡ mostOpen
@@ -639,21 +640,25 @@ deliver-shaped h slot rec bytes shape =
 
 -- ---- any sequence of calls
 
-after-keeps : (h : House) (c : Call) → Sent c → Shaped h → sound h ≡ true → sound (laws.after h c) ≡ true
+pub after-keeps : (h : House) (c : Call) → Sent c → Shaped h → sound h ≡ true → sound (calls.after h c) ≡ true
 after-keeps h (Open slot floor) sent shape e = open-keeps h slot floor shape e
 after-keeps h (Deliver slot rec) sent shape e = deliver-keeps h slot rec sent shape e
+after-keeps h (Report slot long) sent shape e = e
 after-keeps h (Close slot) sent shape e = close-keeps h slot shape e
+after-keeps h Figured sent shape e = e
 
-after-shaped : (h : House) (c : Call) → Sent c → Shaped h → Shaped (laws.after h c)
+pub after-shaped : (h : House) (c : Call) → Sent c → Shaped h → Shaped (calls.after h c)
 after-shaped h (Open slot floor) sent shape = open-shaped h slot floor shape
 after-shaped h (Deliver slot rec) sent shape = deliver-shaped h slot rec sent shape
+after-shaped h (Report slot long) sent shape = shape
 after-shaped h (Close slot) sent shape = close-shaped h slot shape
+after-shaped h Figured sent shape = shape
 
 reached-keeps : (h : House) (calls : List Call) → AllSent calls → Shaped h → sound h ≡ true
     → sound (reached h calls) ≡ true
 reached-keeps h [] sent shape e = e
 reached-keeps h (c ∷ cs) sent shape e =
-    reached-keeps (laws.after h c) cs (sent .1) (after-shaped h c (sent .0) shape) (after-keeps h c (sent .0) shape e)
+    reached-keeps (calls.after h c) cs (sent .1) (after-shaped h c (sent .0) shape) (after-keeps h c (sent .0) shape e)
 
 pub reached-sound : ReachedSound
 reached-sound calls sent = reached-keeps fresh calls sent fresh-shaped fresh-sound

@@ -3,3 +3,5 @@ pub mod Delivering
 pub mod Calling
 pub mod Reporting
 pub mod Keeping
+pub mod Slots
+pub mod Refusing

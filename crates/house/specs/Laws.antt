@@ -1,12 +1,10 @@
 -- What is shown of a house: statements only. Each is proved in proofs/Keeping.antt, under its name in small letters.
 -- Document 01, "The house, its slots and its rows": "Every house reached from a fresh one is sound".
---   Shaped          what its type says of a house: how long its arrays are
---   Call, after     a call that may change a house, and the house after it
---   reached         the house after any sequence of calls
+--   Shaped   what its type says of a house: how long its arrays are
 -- Assumes nothing.
 use mathlib.Core.Path.{_≡_}
 use mathlib.Core.Bool.{true}
-use mathlib.Core.List.{List, [], _∷_}
+use mathlib.Core.List.{List}
 use Prim.Native.Nat.{ℕ, _<_}
 use lib.ListN.{length}
 use Rattle.numbers.specs.Laws.{Bytes}
@@ -19,6 +17,7 @@ use Rattle.session.specs.After.{verdictOn}
 use Rattle.house.specs.declared.House.{House}
 use Rattle.house.specs.House.{rowCount, fresh, keysOf, sound}
 use Rattle.house.specs.Calls.{slotAt, openSlot, closeSlot, deliver}
+use Rattle.house.specs.History.{Call, reached, AllSent}
 
 pub record Shaped (h : House) : Type 0 where
   pub keys : length (h .keys) ≡ rowCount
@@ -48,31 +47,6 @@ BelowFloor = (h : House) (slot : ℕ) (rec : List ℕ) (st : Standing) (rank key
     → heldBy slot (keysOf h) < slotAt h slot .floor → deliver h slot rec .answer ≡ Done
 
 -- ---- any sequence of calls
-
--- report and figures give no house back, so they change none
-pub data Call : Type 0 where
-  Open : ℕ → ℕ → Call
-  Deliver : ℕ → List ℕ → Call
-  Close : ℕ → Call
-
-abbrev pub after : House → Call → House
-after h (Open slot floor) = openSlot h slot floor .house
-after h (Deliver slot rec) = deliver h slot rec .house
-after h (Close slot) = closeSlot h slot .house
-
-abbrev pub reached : House → List Call → House
-reached h [] = h
-reached h (c ∷ cs) = reached (after h c) cs
-
--- what is delivered is bytes
-abbrev pub Sent : Call → Type 0
-Sent (Open slot floor) = Unit
-Sent (Deliver slot rec) = Bytes rec
-Sent (Close slot) = Unit
-
-abbrev pub AllSent : List Call → Type 0
-AllSent [] = Unit
-AllSent (c ∷ cs) = Sent c × AllSent cs
 
 -- every house reached from a fresh one is sound
 abbrev pub ReachedSound : Type 0

@@ -3,11 +3,12 @@
 --   rowAt      the i-th row of a slot
 --   rowsOf     how many rows a report of a slot has; none where there is nothing to report
 --   reported   what the call answers, and how many rows it writes into a slice that is so long
+--   listed     the first rows of a report, one after the other
 --   filled     a slice whose first rows are written, every other as it was
 -- Assumes nothing.
 use Prim.Native.Nat.{ℕ, zero, suc, _+_}
 use mathlib.Core.Bool.{cond, _&&_}
-use mathlib.Core.List.{List}
+use mathlib.Core.List.{List, [], _∷_, _++_}
 use lib.Dec.{leb, ltb}
 use lib.ListN.{getD, set}
 use Rattle.words.specs.Choice.{_unless_then_}
@@ -40,6 +41,10 @@ reported h slot long =
     unreported SlotClosed unless slotAt h slot .taken then
     unreported OutputTooShort unless leb (heldBy slot (keysOf h)) long then
     record { answer = Done; rows = heldBy slot (keysOf h) }
+
+abbrev pub listed : (ℕ → Row) → ℕ → List Row
+listed row zero = []
+listed row (suc i) = listed row i ++ (row i ∷ [])
 
 -- elements beyond the rows keep their old content
 abbrev pub filled : (ℕ → Row) → ℕ → List Row → List Row

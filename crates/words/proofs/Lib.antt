@@ -3,3 +3,4 @@ pub mod Parts
 pub mod Both
 pub mod Table
 pub mod Each
+pub mod Checks

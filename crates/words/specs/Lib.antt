@@ -4,3 +4,4 @@ pub mod Parts
 pub mod Both
 pub mod Table
 pub mod Each
+pub mod Checks

@@ -1,0 +1,259 @@
+-- Demand 1 and the first half of demand 2, proved (specs/Demands.antt): a refusal changes nothing, its number is the
+-- first check that fails, and a record is accepted exactly if none does.
+-- Assumes nothing.
+use mathlib.Core.Path.{_≡_, refl, ap, sym, subst, _∙_}
+use mathlib.Core.Bool.{Bool, true, false, cond, not, _&&_, false≢true}
+use mathlib.Core.List.{List, [], _∷_, _++_, append-assoc}
+use Prim.Native.Nat.{ℕ, zero, suc, _+_, _-_, _≤_, _<_}
+use native.Mathlib.Omega.{arith}
+use lib.Dec.{leb, ltb, eqb}
+use lib.ListN.{length, getD, take, drop, set, length-append}
+use lib.Seq.{set-getD}
+use Rattle.words.specs.Choice.{_unless_then_}
+use Rattle.words.specs.Checks.{_else_, numberBy}
+use Rattle.words.proofs.Checks.{check-first}
+use Rattle.answers.specs.declared.Answer.{Answer}
+use Rattle.answers.specs.declared.Answer.the-variants as answer
+use Rattle.answers.specs.declared.Answer.the-variants.{Done}
+use Rattle.answers.specs.Numbers.{numberOf}
+use Rattle.rows.specs.Rows.{slotCount, rowKey, heldBy}
+use Rattle.session.specs.declared.Session.{Session}
+use Rattle.session.specs.declared.Verdict.{Verdict}
+use Rattle.session.specs.declared.Verdict.the-variants.{Refused, Taken, Opened, Wanted}
+use Rattle.session.specs.Session.{partsOf}
+use Rattle.session.specs.After.{verdictOn}
+use Rattle.session.specs.Results.{ofRecord}
+use Rattle.session.proofs.Judgement.{judged-refusal}
+use Rattle.house.specs.declared.House.{House}
+use Rattle.house.specs.declared.Slot.{Slot}
+use Rattle.house.specs.declared.Row.{Row}
+use Rattle.house.specs.declared.Reported.{Reported}
+use Rattle.house.specs.declared.Figures.{Figures}
+use Rattle.house.specs.declared.Answered.{Answered}
+use Rattle.house.specs.House.{rowCount, noSlot, keysOf, free, promised, sound}
+use Rattle.house.specs.Deliver.{core, granted, rowTaken, resultedIf, settled, delivered}
+use Rattle.house.specs.Calls.{slotAt, withSlot, openSlot, closeSlot, roomOf, withOutcome, deliver, figuresOf}
+use Rattle.house.specs.Report.{rowAt, reported, listed, filled}
+use Rattle.house.specs.History.{Call, Open, Deliver, Report, Close, Figured, reply, answerOf, after}
+use Rattle.house.specs.Demands.{RefusedKeeps, RefusedWrites, ReportWrites, roomFor, verdictNumber, Accepted}
+use Rattle.house.specs.Demands.{OpenNumber, DeliverNumber, ReportNumber, CloseNumber, FiguresNumber}
+use Rattle.house.proofs.Reporting.{few}
+
+-- ---- a refusal changes nothing
+
+-- a call that is refused gives back the house that it came with
+abbrev Keeps : House → Answered → Type 0
+Keeps h o = (o .answer ≡ Done → ⊥) → o .house ≡ h
+
+chosen : (P : Answered → Type 0) (a : Answered) (t : Bool) (b : Answered) → P a → P b → P (a unless t then b)
+chosen P a true b x y = y
+chosen P a false b x y = x
+
+-- a slot that is laid back as it was
+laid-back : (h : House) (slot : ℕ) → withSlot h slot (slotAt h slot) ≡ h
+laid-back h slot =
+    ap (λ (slots : List Slot). record { keys = h .keys; counts = h .counts; used = h .used; slots = slots })
+    (set-getD (h .slots) slot noSlot)
+
+settled-keeps : (h : House) (slot : ℕ) (v : Verdict)
+    → Keeps h
+    (withOutcome h slot
+    (settled (roomOf h slot)
+    (core (h .keys) (h .counts) (h .used) (slotAt h slot .session .standing) (slotAt h slot .session .parts)) v))
+unfolding settled resultedIf rowTaken
+settled-keeps h slot (Refused a) refused = laid-back h slot
+settled-keeps h slot (Taken next) refused = absurd (refused refl)
+settled-keeps h slot (Opened next rank part) refused = absurd (refused refl)
+settled-keeps h slot (Wanted next rank key) refused =
+    go (granted (roomOf h slot) (keysOf h) (rowKey slot key)) refl refused
+  where
+    go : (b : Bool) → granted (roomOf h slot) (keysOf h) (rowKey slot key) ≡ b
+        → Keeps h
+        (withOutcome h slot
+        (resultedIf (roomOf h slot) (h .keys) (h .counts) (h .used) (slotAt h slot .session .standing)
+        (slotAt h slot .session .parts) next rank key))
+    go true got = rw got (λ refused. absurd (refused refl))
+    go false got = rw got (λ refused. laid-back h slot)
+
+pub refused-keeps : RefusedKeeps
+unfolding openSlot deliver delivered closeSlot
+refused-keeps h (Open slot floor) =
+    chosen (Keeps h) _ (sound h) _ (λ r. refl)
+    (chosen (Keeps h) _ (ltb slot slotCount) _ (λ r. refl)
+    (chosen (Keeps h) _ (leb floor rowCount) _ (λ r. refl)
+    (chosen (Keeps h) _ (not (slotAt h slot .taken)) _ (λ r. refl)
+    (chosen (Keeps h) _ (leb floor (free h - promised h)) _ (λ r. refl) (λ refused. absurd (refused refl))))))
+refused-keeps h (Deliver slot rec) =
+    chosen (Keeps h) _ (sound h) _ (λ r. refl)
+    (chosen (Keeps h) _ (ltb slot slotCount) _ (λ r. refl)
+    (chosen (Keeps h) _ (slotAt h slot .taken) _ (λ r. refl)
+    (settled-keeps h slot (verdictOn (slotAt h slot .session) rec))))
+refused-keeps h (Report slot long) = λ refused. refl
+refused-keeps h (Close slot) =
+    chosen (Keeps h) _ (sound h) _ (λ r. refl)
+    (chosen (Keeps h) _ (ltb slot slotCount) _ (λ r. refl)
+    (chosen (Keeps h) _ (slotAt h slot .taken) _ (λ r. refl) (λ refused. absurd (refused refl))))
+refused-keeps h Figured = λ refused. refl
+
+-- a report that is refused has no rows
+reported-none : (h : House) (slot long : ℕ) → (reported h slot long .answer ≡ Done → ⊥) → reported h slot long .rows ≡ 0
+unfolding reported
+reported-none h slot long =
+    pick _ (sound h) _ (λ r. refl)
+    (pick _ (ltb slot slotCount) _ (λ r. refl)
+    (pick _ (slotAt h slot .taken) _ (λ r. refl)
+    (pick _ (leb (heldBy slot (keysOf h)) long) _ (λ r. refl) (λ refused. absurd (refused refl)))))
+  where
+    pick : (a : Reported) (t : Bool) (b : Reported) → ((a .answer ≡ Done → ⊥) → a .rows ≡ 0)
+        → ((b .answer ≡ Done → ⊥) → b .rows ≡ 0)
+        → ((a unless t then b) .answer ≡ Done → ⊥) → (a unless t then b) .rows ≡ 0
+    pick a true b x y = y
+    pick a false b x y = x
+
+pub refused-writes : RefusedWrites
+refused-writes h slot out refused = rw (reported-none h slot (length out) refused)
+
+-- so many elements, then the rest
+listed-length : (row : ℕ → Row) (n : ℕ) → length (listed row n) ≡ n
+listed-length row zero = refl
+listed-length row (suc n) =
+    length-append (listed row n) (row n ∷ []) ∙ omega (arith, listed-length row n)
+
+set-past : (xs ys : List Row) (n : ℕ) (v : Row) → length xs ≡ n → set (xs ++ ys) n v ≡ xs ++ set ys 0 v
+set-past [] ys zero v l = refl
+set-past [] ys (suc n) v l = absurd (omega arith)
+set-past (x ∷ xs) ys zero v l = absurd (omega arith)
+set-past (x ∷ xs) ys (suc n) v l = ap (λ (zs : List Row). x ∷ zs) (set-past xs ys n v (omega arith))
+
+set-drop : (out : List Row) (n : ℕ) (v : Row) → n < length out → set (drop n out) 0 v ≡ v ∷ drop (suc n) out
+set-drop [] n v h = absurd (omega arith)
+set-drop (x ∷ out) zero v h = refl
+set-drop (x ∷ out) (suc n) v h = set-drop out n v (omega arith)
+
+filled-listed : (row : ℕ → Row) (n : ℕ) (out : List Row) → n ≤ length out
+    → filled row n out ≡ listed row n ++ drop n out
+filled-listed row zero out h = refl
+filled-listed row (suc n) out h =
+    ap (λ (xs : List Row). set xs n (row n)) (filled-listed row n out (omega (arith, h)))
+    ∙ set-past (listed row n) (drop n out) n (row n) (listed-length row n)
+    ∙ ap (λ (ys : List Row). listed row n ++ ys) (set-drop out n (row n) (omega (arith, h)))
+    ∙ sym (append-assoc (listed row n) (row n ∷ []) (drop (suc n) out))
+
+pub report-writes : ReportWrites
+report-writes h slot out =
+    filled-listed (rowAt h slot) (reported h slot (length out) .rows) out (few h slot (length out) .1)
+
+-- ---- the number of an answer
+
+abbrev number : Answered → ℕ
+number o = numberOf (o .answer)
+
+pub open-number : OpenNumber
+unfolding openSlot
+open-number h slot floor =
+    check-first number _ (sound h) _ 15 _ refl (λ fine.
+    check-first number _ (ltb slot slotCount) _ 1 _ refl (λ inside.
+    check-first number _ (leb floor rowCount) _ 16 _ refl (λ low.
+    check-first number _ (not (slotAt h slot .taken)) _ 2 _ refl (λ shut.
+    check-first number _ (leb floor (free h - promised h)) _ 13 0 refl (λ wide. refl)))))
+
+-- a verdict's own number, then 13; a record by itself is never refused with 0
+settled-number : (h : House) (slot : ℕ) (v : Verdict) → ((a : Answer) → v ≡ Refused a → ofRecord a ≡ true)
+    → number
+    (withOutcome h slot
+    (settled (roomOf h slot)
+    (core (h .keys) (h .counts) (h .used) (slotAt h slot .session .standing) (slotAt h slot .session .parts)) v))
+    ≡ numberBy ((eqb (verdictNumber v) 0 else verdictNumber v) ∷ (roomFor h slot v else 13) ∷ [])
+unfolding settled resultedIf rowTaken
+settled-number h slot (Refused a) own = refused-number a (own a refl)
+  where
+    refused-number : (b : Answer) → ofRecord b ≡ true
+        → numberOf b ≡ numberBy ((eqb (numberOf b) 0 else numberOf b) ∷ (true else 13) ∷ [])
+    refused-number answer.Done is = absurd (false≢true is)
+    refused-number answer.NoSuchSlot is = refl
+    refused-number answer.SlotTaken is = refl
+    refused-number answer.SlotClosed is = refl
+    refused-number answer.NotOneRecord is = refl
+    refused-number answer.UnknownOrder is = refl
+    refused-number answer.WrongVersion is = refl
+    refused-number answer.UnknownKind is = refl
+    refused-number answer.BodyMisfit is = refl
+    refused-number answer.OutOfPlace is = refl
+    refused-number answer.PartOpen is = refl
+    refused-number answer.PartNotOpen is = refl
+    refused-number answer.TooManyParts is = refl
+    refused-number answer.NotFinished is = refl
+    refused-number answer.NoRoom is = refl
+    refused-number answer.TooManyResults is = refl
+    refused-number answer.NotSound is = refl
+    refused-number answer.FloorTooHigh is = refl
+    refused-number answer.OutputTooShort is = refl
+    refused-number answer.NotACountLine is = refl
+    refused-number answer.NameNotText is = refl
+settled-number h slot (Taken next) own = refl
+settled-number h slot (Opened next rank part) own = refl
+settled-number h slot (Wanted next rank key) own = go (granted (roomOf h slot) (keysOf h) (rowKey slot key)) refl
+  where
+    go : (b : Bool) → granted (roomOf h slot) (keysOf h) (rowKey slot key) ≡ b
+        → number
+        (withOutcome h slot
+        (resultedIf (roomOf h slot) (h .keys) (h .counts) (h .used) (slotAt h slot .session .standing)
+        (slotAt h slot .session .parts) next rank key))
+        ≡ numberBy ((granted (roomOf h slot) (keysOf h) (rowKey slot key) else 13) ∷ [])
+    go true got = rw got
+    go false got = rw got
+
+pub deliver-number : DeliverNumber
+unfolding deliver delivered
+deliver-number h slot rec =
+    let s = slotAt h slot .session in
+    check-first number _ (sound h) _ 15 _ refl (λ fine.
+    check-first number _ (ltb slot slotCount) _ 1 _ refl (λ inside.
+    check-first number _ (slotAt h slot .taken) _ 2 _ refl (λ t.
+    settled-number h slot (verdictOn s rec) (λ a is. judged-refusal (s .standing) (partsOf s) rec a is))))
+
+pub report-number : ReportNumber
+unfolding reported
+report-number h slot long =
+    check-first given _ (sound h) _ 15 _ refl (λ fine.
+    check-first given _ (ltb slot slotCount) _ 1 _ refl (λ inside.
+    check-first given _ (slotAt h slot .taken) _ 2 _ refl (λ t.
+    check-first given _ (leb (heldBy slot (keysOf h)) long) _ 17 0 refl (λ wide. refl))))
+  where
+    given : Reported → ℕ
+    given r = numberOf (r .answer)
+
+pub close-number : CloseNumber
+unfolding closeSlot
+close-number h slot =
+    check-first number _ (sound h) _ 15 _ refl (λ fine.
+    check-first number _ (ltb slot slotCount) _ 1 _ refl (λ inside.
+    check-first number _ (slotAt h slot .taken) _ 2 0 refl (λ t. refl)))
+
+pub figures-number : FiguresNumber
+unfolding figuresOf
+figures-number h = check-first (λ (f : Figures). numberOf (f .answer)) _ (sound h) _ 15 0 refl (λ fine. refl)
+
+-- ---- what is accepted
+
+-- all checks hold exactly if the number is 0, where no check has that number
+pub accepted : Accepted
+accepted h slot rec =
+    let v = verdictOn (slotAt h slot .session) rec in
+    ap (λ (n : ℕ). eqb n 0) (deliver-number h slot rec)
+    ∙ all (sound h) (ltb slot slotCount) (slotAt h slot .taken) (verdictNumber v) (roomFor h slot v)
+  where
+    last : (n : ℕ) (room : Bool) (t : Bool) → eqb n 0 ≡ t
+        → eqb (numberBy ((t else n) ∷ (room else 13) ∷ [])) 0 ≡ (t && room)
+    last n true true is = refl
+    last n false true is = refl
+    last n room false is = is
+
+    all : (fine inside opened : Bool) (n : ℕ) (room : Bool)
+        → eqb
+        (numberBy ((fine else 15) ∷ (inside else 1) ∷ (opened else 2) ∷ (eqb n 0 else n) ∷ (room else 13) ∷ [])) 0
+        ≡ (fine && (inside && (opened && (eqb n 0 && room))))
+    all false inside opened n room = refl
+    all true false opened n room = refl
+    all true true false n room = refl
+    all true true true n room = last n room (eqb n 0) refl

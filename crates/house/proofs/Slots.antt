@@ -1,0 +1,271 @@
+-- What a call does to the slot that it names, and that it leaves every other as it was: the step of every argument
+-- over sequences of calls. Of a house, a slot is what stands in its place and its rows as a list.
+-- Assumes nothing.
+use mathlib.Core.Path.{_≡_, refl, ap, sym, subst, _∙_}
+use mathlib.Core.Bool.{Bool, true, false, cond, not, _&&_, _||_, false≢true}
+use mathlib.Core.List.{List, [], _∷_}
+use Prim.Native.Nat.{ℕ, _+_, _-_, _*_, _/_, _%_, _≤_, _<_}
+use native.Mathlib.Omega.{arith}
+use borrow.Author.Tests.{lt-ltb, ltb-true, eq-eqb, ne-eqb, eqb-false}
+use lib.Dec.{leb, ltb, eqb}
+use lib.ListN.{length, getD, take, set}
+use lib.Seq.{getD-set-same, getD-set-other, set-getD}
+use Rattle.words.specs.Choice.{_unless_then_}
+use Rattle.answers.specs.declared.Answer.{Answer}
+use Rattle.answers.specs.declared.Answer.the-variants.{Done, NoRoom, NoSuchSlot, SlotTaken, SlotClosed, NotSound}
+use Rattle.answers.specs.declared.Answer.the-variants.{FloorTooHigh}
+use Rattle.numbers.specs.Laws.{Bytes}
+use Rattle.rising.specs.Rising.{held}
+use Rattle.rows.specs.Rows.{slotCount, slotSpan, slotOf, rowKey, Kept, counted, keysUsed, countsUsed}
+use Rattle.rows.specs.Counts.{Count, plus, rowsBy}
+use Rattle.rows.proofs.Counts.{counted-rows-by, dropped-rows-by}
+use Rattle.session.specs.declared.Session.{Session}
+use Rattle.session.specs.declared.Standing.{Standing}
+use Rattle.session.specs.declared.Verdict.{Verdict}
+use Rattle.session.specs.declared.Verdict.the-variants.{Refused, Taken, Opened, Wanted}
+use Rattle.session.specs.Laws.{KeyRight}
+use Rattle.session.specs.After as session
+use Rattle.session.specs.After.{verdictOn}
+use Rattle.session.specs.Session.{pastParts}
+use Rattle.session.proofs.Judgement.{judged-key}
+use Rattle.house.specs.declared.Slot.{Slot}
+use Rattle.house.specs.declared.House.{House}
+use Rattle.house.specs.declared.Answered.{Answered}
+use Rattle.house.specs.House.{rowCount, noSlot, closedSlot, openedSlot, keysOf, countsOf, free, promised, sound}
+use Rattle.house.specs.Deliver.{Outcome, core, granted, rowTaken, resultedIf, settled, delivered}
+use Rattle.house.specs.Calls.{slotAt, withSlot, answered, openSlot, closed, closeSlot, roomOf, withOutcome}
+use Rattle.house.specs.Calls.{deliveredTo, deliver}
+use Rattle.house.specs.History.{Call, Open, Deliver, Report, Close, Figured, after, names, Sent}
+use Rattle.house.specs.Laws.{Shaped}
+use Rattle.house.proofs.Calling.{deliver-judged}
+use Rattle.house.proofs.Keeping.{unless-by, keys-kept, there, key-low, key-slot, room, withSession}
+
+-- a slot's rows
+abbrev pub rowsAt : House → ℕ → List Count
+rowsAt h slot = rowsBy slot (keysOf h) (countsOf h)
+
+-- a slot stands the same in two houses
+pub record Alike (slot : ℕ) (h g : House) : Type 0 where
+  pub stands : slotAt h slot ≡ slotAt g slot
+  pub rows : rowsAt h slot ≡ rowsAt g slot
+
+pub alike-same : (slot : ℕ) (h : House) → Alike slot h h
+alike-same slot h = record { stands = refl; rows = refl }
+
+pub alike-on : (slot : ℕ) (h g k : House) → Alike slot h g → Alike slot g k → Alike slot h k
+alike-on slot h g k a b = record { stands = a .stands ∙ b .stands; rows = a .rows ∙ b .rows }
+
+-- ---- what a record makes of its slot
+
+-- whether it has its row; only a part result asks for one
+abbrev pub rowed : House → ℕ → Verdict → Bool
+rowed h slot (Refused a) = true
+rowed h slot (Taken next) = true
+rowed h slot (Opened next rank part) = true
+rowed h slot (Wanted next rank key) = granted (roomOf h slot) (keysOf h) (rowKey slot key)
+
+abbrev pub answerBy : Verdict → Bool → Answer
+answerBy (Refused a) b = a
+answerBy (Taken next) b = Done
+answerBy (Opened next rank part) b = Done
+answerBy (Wanted next rank key) b = cond b Done NoRoom
+
+abbrev pub sessionBy : Session → Verdict → Bool → Session
+sessionBy s (Refused a) b = s
+sessionBy s (Taken next) b = session.after s (Taken next)
+sessionBy s (Opened next rank part) b = session.after s (Opened next rank part)
+sessionBy s (Wanted next rank key) b = cond b (session.after s (Wanted next rank key)) s
+
+abbrev pub rowsBy-verdict : List Count → Verdict → Bool → List Count
+rowsBy-verdict rows (Refused a) b = rows
+rowsBy-verdict rows (Taken next) b = rows
+rowsBy-verdict rows (Opened next rank part) b = rows
+rowsBy-verdict rows (Wanted next rank key) b = cond b (plus key rows) rows
+
+abbrev pub nextSlot : Slot → Verdict → Bool → Slot
+nextSlot s v b = record { taken = s .taken; floor = s .floor; session = sessionBy (s .session) v b }
+
+key-in : (slot key : ℕ) → key < 4_278_190_080 → rowKey slot key % slotSpan ≡ key
+key-in slot key low = omega (arith, low)
+
+-- what stands in a slot that was set, and in another
+module _ (h : House) (slot : ℕ) (shape : Shaped h) (inside : slot < slotCount) (x : Slot) where
+  set-own : getD (set (h .slots) slot x) slot noSlot ≡ x
+  set-own = getD-set-same (h .slots) slot x noSlot (omega (arith, inside, shape .slots))
+
+  set-else : (i : ℕ) → (i ≡ slot → ⊥) → getD (set (h .slots) slot x) i noSlot ≡ slotAt h i
+  set-else i other = getD-set-other (h .slots) slot i x noSlot other
+
+-- a delivery, told of its own slot
+pub record Own (h : House) (slot : ℕ) (v : Verdict) (o : Answered) : Type 0 where
+  pub answer : o .answer ≡ answerBy v (rowed h slot v)
+  pub stands : slotAt (o .house) slot ≡ nextSlot (slotAt h slot) v (rowed h slot v)
+  pub rows : rowsAt (o .house) slot ≡ rowsBy-verdict (rowsAt h slot) v (rowed h slot v)
+
+module _ (h : House) (slot : ℕ) (shape : Shaped h) (e : sound h ≡ true) (inside : slot < slotCount)
+    (t : slotAt h slot .taken ≡ true) where
+  abbrev ses : Session
+  ses = slotAt h slot .session
+
+  abbrev outcome : Verdict → Answered
+  outcome v =
+      withOutcome h slot
+      (settled (roomOf h slot) (core (h .keys) (h .counts) (h .used) (ses .standing) (ses .parts)) v)
+
+  -- the rows after a part result that is granted
+  module _ (st : Standing) (rank key : ℕ) (right : KeyRight (Wanted st rank key))
+      (got : granted (roomOf h slot) (keysOf h) (rowKey slot key) ≡ true) where
+    abbrev row : ℕ
+    row = rowKey slot key
+
+    rows-after : (i : ℕ)
+        → rowsBy i (keysUsed (counted (h .keys) (h .counts) (h .used) row))
+        (countsUsed (counted (h .keys) (h .counts) (h .used) row))
+        ≡ cond (eqb slot i) (plus key (rowsAt h i)) (rowsAt h i)
+    rows-after i =
+        let low = key-low key (right .0) in
+        let all =
+        counted-rows-by i (h .keys) (h .counts) (h .used) row (keys-kept h slot shape e inside)
+        (room h slot shape e inside t key right got) in
+        rw (key-slot slot key low, key-in slot key low) at all
+
+  own-settled : (v : Verdict) → KeyRight v → Own h slot v (outcome v)
+  unfolding settled resultedIf rowTaken session.after
+  own-settled (Refused a) right =
+      record { answer = refl; stands = set-own h slot shape inside (slotAt h slot); rows = refl }
+  own-settled (Taken next) right =
+      record {
+        answer = refl;
+        stands = set-own h slot shape inside (withSession (slotAt h slot) (session.after ses (Taken next)));
+        rows = refl;
+      }
+  own-settled (Opened next rank part) right =
+      record {
+        answer = refl;
+        stands =
+            set-own h slot shape inside (withSession (slotAt h slot) (session.after ses (Opened next rank part)));
+        rows = refl;
+      }
+  own-settled (Wanted next rank key) right = go (granted (roomOf h slot) (keysOf h) (rowKey slot key)) refl
+    where
+      go : (b : Bool) → granted (roomOf h slot) (keysOf h) (rowKey slot key) ≡ b
+          → Own h slot (Wanted next rank key) (outcome (Wanted next rank key))
+      go true got =
+          record {
+            answer = rw got;
+            stands =
+                rw got
+                (set-own h slot shape inside
+                (withSession (slotAt h slot) (session.after ses (Wanted next rank key))));
+            rows = rw got (rows-after next rank key right got slot ∙ rw (eq-eqb slot slot refl));
+          }
+      go false got =
+          record { answer = rw got; stands = rw got (set-own h slot shape inside (slotAt h slot)); rows = rw got }
+
+  -- .. and of another
+  else-settled : (v : Verdict) → KeyRight v → (i : ℕ) → (i ≡ slot → ⊥) → Alike i (outcome v .house) h
+  unfolding settled resultedIf rowTaken session.after
+  else-settled (Refused a) right i other =
+      record { stands = set-else h slot shape inside (slotAt h slot) i other; rows = refl }
+  else-settled (Taken next) right i other =
+      record {
+        stands =
+            set-else h slot shape inside (withSession (slotAt h slot) (session.after ses (Taken next))) i other;
+        rows = refl;
+      }
+  else-settled (Opened next rank part) right i other =
+      record {
+        stands =
+            set-else h slot shape inside
+            (withSession (slotAt h slot) (session.after ses (Opened next rank part))) i other;
+        rows = refl;
+      }
+  else-settled (Wanted next rank key) right i other =
+      go (granted (roomOf h slot) (keysOf h) (rowKey slot key)) refl
+    where
+      go : (b : Bool) → granted (roomOf h slot) (keysOf h) (rowKey slot key) ≡ b
+          → Alike i (outcome (Wanted next rank key) .house) h
+      go true got =
+          record {
+            stands =
+                rw got
+                (set-else h slot shape inside
+                (withSession (slotAt h slot) (session.after ses (Wanted next rank key))) i other);
+            rows = rw got (rows-after next rank key right got i ∙ rw (ne-eqb slot i (λ q. other (sym q))));
+          }
+      go false got =
+          record { stands = rw got (set-else h slot shape inside (slotAt h slot) i other); rows = rw got }
+
+-- ---- a call that names another slot
+
+module _ (slot : ℕ) (h : House) (shape : Shaped h) where
+  else-open : (i floor : ℕ) → (slot ≡ i → ⊥) → Alike slot (openSlot h i floor .house) h
+  unfolding openSlot
+  else-open i floor other =
+      let same = alike-same slot h in
+      unless-by (λ (g : House). Alike slot g h) _ (sound h) _ same (λ fine.
+      unless-by (λ (g : House). Alike slot g h) _ (ltb i slotCount) _ same (λ inside.
+      unless-by (λ (g : House). Alike slot g h) _ (leb floor rowCount) _ same (λ low.
+      unless-by (λ (g : House). Alike slot g h) _ (not (slotAt h i .taken)) _ same (λ shut.
+      unless-by (λ (g : House). Alike slot g h) _ (leb floor (free h - promised h)) _ same (λ wide.
+      record {
+        stands = set-else h i shape (ltb-true i slotCount inside) (openedSlot floor) slot other;
+        rows = refl;
+      })))))
+
+  else-close : (i : ℕ) → (slot ≡ i → ⊥) → Alike slot (closeSlot h i .house) h
+  unfolding closeSlot
+  else-close i other =
+      let same = alike-same slot h in
+      unless-by (λ (g : House). Alike slot g h) _ (sound h) _ same (λ fine.
+      unless-by (λ (g : House). Alike slot g h) _ (ltb i slotCount) _ same (λ within.
+      unless-by (λ (g : House). Alike slot g h) _ (slotAt h i .taken) _ same (λ t.
+      let inside = ltb-true i slotCount within in
+      record {
+        stands = set-else h i shape inside closedSlot slot other;
+        rows =
+            dropped-rows-by slot (h .keys) (h .counts) (h .used) i (keys-kept h i shape fine inside)
+            ∙ rw (ne-eqb slot i other);
+      })))
+
+  else-deliver : (i : ℕ) (rec : List ℕ) → Bytes rec → (slot ≡ i → ⊥) → Alike slot (deliver h i rec .house) h
+  unfolding deliver delivered
+  else-deliver i rec bytes other =
+      let same = alike-same slot h in
+      unless-by (λ (g : House). Alike slot g h) _ (sound h) _ same (λ fine.
+      unless-by (λ (g : House). Alike slot g h) _ (ltb i slotCount) _ same (λ within.
+      unless-by (λ (g : House). Alike slot g h) _ (slotAt h i .taken) _ same (λ t.
+      let s = slotAt h i .session in
+      else-settled h i shape fine (ltb-true i slotCount within) t (verdictOn s rec) (judged-key s rec bytes) slot
+      other)))
+
+pub else-alike : (slot : ℕ) (h : House) (c : Call) → Shaped h → Sent c → names slot c ≡ false
+    → Alike slot (after h c) h
+else-alike slot h (Open i floor) shape sent other =
+    else-open slot h shape i floor (λ q. eqb-false i slot other (sym q))
+else-alike slot h (Deliver i rec) shape sent other =
+    else-deliver slot h shape i rec sent (λ q. eqb-false i slot other (sym q))
+else-alike slot h (Report i long) shape sent other = alike-same slot h
+else-alike slot h (Close i) shape sent other = else-close slot h shape i (λ q. eqb-false i slot other (sym q))
+else-alike slot h Figured shape sent other = alike-same slot h
+
+-- ---- a call that names the slot
+
+module _ (h : House) (slot : ℕ) (shape : Shaped h) (e : sound h ≡ true) (inside : slot < slotCount) where
+  pub own-deliver : (rec : List ℕ) → Bytes rec → slotAt h slot .taken ≡ true
+      → Own h slot (verdictOn (slotAt h slot .session) rec) (deliver h slot rec)
+  unfolding delivered
+  own-deliver rec bytes t =
+      let s = slotAt h slot .session in
+      let v = verdictOn s rec in
+      subst (Own h slot v) (sym (deliver-judged h slot rec e inside t))
+      (own-settled h slot shape e inside t v (judged-key s rec bytes))
+
+  pub own-close : slotAt h slot .taken ≡ true
+      → (slotAt (closeSlot h slot .house) slot ≡ closedSlot) × (rowsAt (closeSlot h slot .house) slot ≡ [])
+  unfolding closeSlot
+  own-close t =
+      rw (e, lt-ltb slot slotCount inside, t)
+      (set-own h slot shape inside closedSlot,
+      dropped-rows-by slot (h .keys) (h .counts) (h .used) slot (keys-kept h slot shape e inside)
+      ∙ rw (eq-eqb slot slot refl))
