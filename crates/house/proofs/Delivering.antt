@@ -46,6 +46,15 @@ module _ (room : Room) (keys : List ℕ) (key : ℕ) where
         let none : room .others + (room .floor - n) ≡ room .others = omega arith in
         rw (new, ← is, le-ltb n (room .floor) h, none, long)
 
+  -- a session below its floor is granted any key
+  pub granted-below : heldBy (room .slot) keys < room .floor → granted room keys key ≡ true
+  unfolding granted
+  granted-below h = go (held key keys) refl
+    where
+      go : (t : Bool) → held key keys ≡ t → granted room keys key ≡ true
+      go true e = rw e
+      go false e = rw (e, lt-ltb (heldBy (room .slot) keys) (room .floor) h)
+
 -- a new key that is granted finds a row
 granted-some : (floor n others used : ℕ) → others + (floor - n) ≤ rowCount - used
     → (ltb n floor || ltb (others + (floor - n)) (rowCount - used)) ≡ true → used < rowCount

@@ -71,7 +71,7 @@ slot-right i s keys counts t o =
       eq-eqb (sumBy i keys counts) (s .session .standing .results) (o .sum),
     )
 
-told-right : (h : House) → sound h ≡ true → rowsRight (takenOf (h .slots)) (keysOf h) (countsOf h) ≡ true
+pub told-right : (h : House) → sound h ≡ true → rowsRight (takenOf (h .slots)) (keysOf h) (countsOf h) ≡ true
 unfolding rowsSound
 told-right h e =
     both-right (rising (keysOf h)) (rowsRight (takenOf (h .slots)) (keysOf h) (countsOf h)) (told-rows h e)

@@ -5,3 +5,4 @@ pub mod Reporting
 pub mod Keeping
 pub mod Slots
 pub mod Refusing
+pub mod Counting

@@ -157,7 +157,31 @@ open-number h slot floor =
     check-first number _ (not (slotAt h slot .taken)) _ 2 _ refl (λ shut.
     check-first number _ (leb floor (free h - promised h)) _ 13 0 refl (λ wide. refl)))))
 
--- a verdict's own number, then 13; a record by itself is never refused with 0
+-- a record by itself is never refused with 0
+pub own-number : (a : Answer) → ofRecord a ≡ true → eqb (numberOf a) 0 ≡ false
+own-number answer.Done is = absurd (false≢true is)
+own-number answer.NoSuchSlot is = refl
+own-number answer.SlotTaken is = refl
+own-number answer.SlotClosed is = refl
+own-number answer.NotOneRecord is = refl
+own-number answer.UnknownOrder is = refl
+own-number answer.WrongVersion is = refl
+own-number answer.UnknownKind is = refl
+own-number answer.BodyMisfit is = refl
+own-number answer.OutOfPlace is = refl
+own-number answer.PartOpen is = refl
+own-number answer.PartNotOpen is = refl
+own-number answer.TooManyParts is = refl
+own-number answer.NotFinished is = refl
+own-number answer.NoRoom is = refl
+own-number answer.TooManyResults is = refl
+own-number answer.NotSound is = refl
+own-number answer.FloorTooHigh is = refl
+own-number answer.OutputTooShort is = refl
+own-number answer.NotACountLine is = refl
+own-number answer.NameNotText is = refl
+
+-- a verdict's own number, then 13
 settled-number : (h : House) (slot : ℕ) (v : Verdict) → ((a : Answer) → v ≡ Refused a → ofRecord a ≡ true)
     → number
     (withOutcome h slot
@@ -165,31 +189,7 @@ settled-number : (h : House) (slot : ℕ) (v : Verdict) → ((a : Answer) → v 
     (core (h .keys) (h .counts) (h .used) (slotAt h slot .session .standing) (slotAt h slot .session .parts)) v))
     ≡ numberBy ((eqb (verdictNumber v) 0 else verdictNumber v) ∷ (roomFor h slot v else 13) ∷ [])
 unfolding settled resultedIf rowTaken
-settled-number h slot (Refused a) own = refused-number a (own a refl)
-  where
-    refused-number : (b : Answer) → ofRecord b ≡ true
-        → numberOf b ≡ numberBy ((eqb (numberOf b) 0 else numberOf b) ∷ (true else 13) ∷ [])
-    refused-number answer.Done is = absurd (false≢true is)
-    refused-number answer.NoSuchSlot is = refl
-    refused-number answer.SlotTaken is = refl
-    refused-number answer.SlotClosed is = refl
-    refused-number answer.NotOneRecord is = refl
-    refused-number answer.UnknownOrder is = refl
-    refused-number answer.WrongVersion is = refl
-    refused-number answer.UnknownKind is = refl
-    refused-number answer.BodyMisfit is = refl
-    refused-number answer.OutOfPlace is = refl
-    refused-number answer.PartOpen is = refl
-    refused-number answer.PartNotOpen is = refl
-    refused-number answer.TooManyParts is = refl
-    refused-number answer.NotFinished is = refl
-    refused-number answer.NoRoom is = refl
-    refused-number answer.TooManyResults is = refl
-    refused-number answer.NotSound is = refl
-    refused-number answer.FloorTooHigh is = refl
-    refused-number answer.OutputTooShort is = refl
-    refused-number answer.NotACountLine is = refl
-    refused-number answer.NameNotText is = refl
+settled-number h slot (Refused a) own = rw (own-number a (own a refl))
 settled-number h slot (Taken next) own = refl
 settled-number h slot (Opened next rank part) own = refl
 settled-number h slot (Wanted next rank key) own = go (granted (roomOf h slot) (keysOf h) (rowKey slot key)) refl

@@ -60,7 +60,7 @@ told-rises h fine =
     both-left (rising (keysOf h)) (rowsRight (takenOf (h .slots)) (keysOf h) (countsOf h)) (told-rows h fine)
 
 -- past the last slot none is open
-open-within : (slots : List Slot) (i : ℕ) → getD slots i noSlot .taken ≡ true → i < length slots
+pub open-within : (slots : List Slot) (i : ℕ) → getD slots i noSlot .taken ≡ true → i < length slots
 open-within [] i e = absurd (false≢true e)
 open-within (s ∷ ss) zero e = omega arith
 open-within (s ∷ ss) (suc i) e = omega (arith, open-within ss i e)

@@ -269,3 +269,11 @@ module _ (h : House) (slot : ℕ) (shape : Shaped h) (e : sound h ≡ true) (ins
       (set-own h slot shape inside closedSlot,
       dropped-rows-by slot (h .keys) (h .counts) (h .used) slot (keys-kept h slot shape e inside)
       ∙ rw (eq-eqb slot slot refl))
+
+  pub own-open : (floor : ℕ) → leb floor rowCount ≡ true → slotAt h slot .taken ≡ false
+      → leb floor (free h - promised h) ≡ true
+      → (slotAt (openSlot h slot floor .house) slot ≡ openedSlot floor)
+      × (rowsAt (openSlot h slot floor .house) slot ≡ rowsAt h slot)
+  unfolding openSlot
+  own-open floor low shut wide =
+      rw (e, lt-ltb slot slotCount inside, low, shut, wide) (set-own h slot shape inside (openedSlot floor), refl)
