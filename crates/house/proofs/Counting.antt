@@ -9,7 +9,7 @@ use native.Mathlib.Nat.{add-zero, zero-add}
 use native.Mathlib.Omega.{arith}
 use borrow.Author.Tests.{lt-ltb, leb-true, ltb-true, eqb-true, eqb-false, eq-eqb, not-true}
 use lib.Dec.{leb, ltb, eqb}
-use lib.ListN.{length, getD, take, set, replicate}
+use lib.ListN.{length, getD, take, replicate, List·getD-map}
 use lib.Seq.{getD-set-same, getD-take, length-take-le, take-suc, take-length}
 use Rattle.words.specs.Choice.{_unless_then_}
 use Rattle.words.specs.Checks.{_else_, numberBy}
@@ -20,7 +20,7 @@ use Rattle.numbers.specs.Laws.{Bytes}
 use Rattle.rising.specs.Rising.{held}
 use Rattle.rows.specs.Rows.{slotCount, slotSpan, headOf, siteOf, binOf, slotRank, rowKey, heldBy, heldFrom}
 use Rattle.rows.specs.Counts.{Count, count, plus, rowsBy}
-use Rattle.rows.proofs.Laws.{held-all, held-ranks, run-within}
+use Rattle.rows.proofs.Laws.{held-all, held-ranks, run-within, closed-none}
 use Rattle.rows.proofs.Counts.{rows-held-by, rows-at}
 use Rattle.session.specs.declared.Standing.{Standing}
 use Rattle.session.specs.declared.Verdict.{Verdict}
@@ -97,7 +97,7 @@ agree-fresh slot =
 -- ---- one call more
 
 -- of checks that all hold, each does
-holds : (t : Bool) (rest n : ℕ) → cond t rest (suc n) ≡ 0 → (t ≡ true) × (rest ≡ 0)
+pub holds : (t : Bool) (rest n : ℕ) → cond t rest (suc n) ≡ 0 → (t ≡ true) × (rest ≡ 0)
 holds true rest n e = (refl, e)
 holds false rest n e = absurd (omega (arith, e))
 
@@ -285,6 +285,18 @@ module _ (h : House) (slot : ℕ) (shape : Shaped h) (e : sound h ≡ true) wher
 
   pub rows-held : length (rowsAt h slot) ≡ heldBy slot (keysOf h)
   rows-held = rows-held-by slot (keysOf h) (countsOf h) paired
+
+  -- a slot that is not open holds none
+  pub shut-rows : slotAt h slot .taken ≡ false → rowsAt h slot ≡ []
+  shut-rows shut =
+      let there : getD (takenOf (h .slots)) slot false ≡ false =
+      List·getD-map (λ (s : Slot). s .taken) (h .slots) slot noSlot ∙ shut in
+      let none = closed-none (takenOf (h .slots)) (keysOf h) (countsOf h) slot (told-right h e) there .0 in
+      empty (rowsAt h slot) (rows-held ∙ none)
+    where
+      empty : (rows : List Count) → length rows ≡ 0 → rows ≡ []
+      empty [] l = refl
+      empty (c ∷ rows) l = absurd (omega (arith, l))
 
   row-listed : (i : ℕ) (none : Count) → i < heldBy slot (keysOf h)
       → rowAt h slot i ≡ rowOf (getD (rowsAt h slot) i none)

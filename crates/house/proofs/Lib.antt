@@ -6,3 +6,4 @@ pub mod Keeping
 pub mod Slots
 pub mod Refusing
 pub mod Counting
+pub mod Alone
