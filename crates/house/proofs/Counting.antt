@@ -45,7 +45,7 @@ use Rattle.house.specs.History.{reached, said, history, names, Sent, All
 use Rattle.house.specs.Tally.{Heard, nothing, counting, following, doneBy, isDone, heard, heardFrom, toldOf}
 use Rattle.house.specs.Tally.{rowOf, tallied, holding, owed, over, freeBy, promisedBy}
 use Rattle.house.specs.Laws.{Shaped}
-use Rattle.house.specs.Demands.{verdictNumber, TallyReported, FiguresTallied, FreePromised, NeverRefused}
+use Rattle.house.specs.Demands.{TallyReported, FiguresTallied, FreePromised, NeverRefused}
 use Rattle.house.proofs.Calling.{told-within, told-rooms, open-done, figures-done}
 use Rattle.house.proofs.Delivering.{granted-below}
 use Rattle.house.proofs.Reporting.{told-rises, open-within, report-done}
@@ -276,7 +276,7 @@ row-in k n =
     rw (head, site, bin)
 
 module _ (h : House) (slot : ℕ) (shape : Shaped h) (e : sound h ≡ true) where
-  keys-long : length (keysOf h) ≡ h .used
+  pub keys-long : length (keysOf h) ≡ h .used
   keys-long = length-take-le (h .used) (h .keys) (omega (arith, shape .keys, told-within h e))
 
   pub paired : length (countsOf h) ≡ length (keysOf h)

@@ -7,3 +7,4 @@ pub mod Slots
 pub mod Refusing
 pub mod Counting
 pub mod Alone
+pub mod Rooms

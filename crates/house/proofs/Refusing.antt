@@ -22,7 +22,7 @@ use Rattle.session.specs.declared.Verdict.{Verdict}
 use Rattle.session.specs.declared.Verdict.the-variants.{Refused, Taken, Opened, Wanted}
 use Rattle.session.specs.Session.{partsOf}
 use Rattle.session.specs.After.{verdictOn}
-use Rattle.session.specs.Results.{ofRecord}
+use Rattle.session.specs.Results.{ofRecord, verdictNumber}
 use Rattle.session.proofs.Judgement.{judged-refusal}
 use Rattle.house.specs.declared.House.{House}
 use Rattle.house.specs.declared.Slot.{Slot}
@@ -35,7 +35,7 @@ use Rattle.house.specs.Deliver.{core, granted, rowTaken, resultedIf, set
 use Rattle.house.specs.Calls.{slotAt, withSlot, openSlot, closeSlot, roomOf, withOutcome, deliver, figuresOf}
 use Rattle.house.specs.Report.{rowAt, reported, listed, filled}
 use Rattle.house.specs.History.{Call, Open, Deliver, Report, Close, Figured, reply, answerOf, after}
-use Rattle.house.specs.Demands.{RefusedKeeps, RefusedWrites, ReportWrites, roomFor, verdictNumber, Accepted}
+use Rattle.house.specs.Demands.{RefusedKeeps, RefusedWrites, ReportWrites, roomFor, Accepted}
 use Rattle.house.specs.Demands.{OpenNumber, DeliverNumber, ReportNumber, CloseNumber, FiguresNumber}
 use Rattle.house.proofs.Reporting.{few}
 

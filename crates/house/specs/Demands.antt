@@ -21,6 +21,7 @@ use Rattle.rising.specs.Rising.{held}
 use Rattle.session.specs.declared.Verdict.{Verdict}
 use Rattle.session.specs.declared.Verdict.the-variants.{Refused, Taken, Opened, Wanted}
 use Rattle.session.specs.After.{verdictOn}
+use Rattle.session.specs.Results.{verdictNumber}
 use Rattle.house.specs.declared.House.{House}
 use Rattle.house.specs.declared.Row.{Row}
 use Rattle.house.specs.House as house
@@ -61,14 +62,8 @@ OpenNumber = (h : House) (slot floor : ℕ)
     ∷ (leb floor (free h - house.promised h) else 13)
     ∷ [])
 
--- a record by itself has a number, session's FirstNumber and LaterNumber say which; room, 13, comes last
-abbrev pub verdictNumber : Verdict → ℕ
-verdictNumber (Refused a) = numberOf a
-verdictNumber (Taken next) = 0
-verdictNumber (Opened next rank part) = 0
-verdictNumber (Wanted next rank key) = 0
-
--- a part result asks for a row
+-- a part result asks for a row, and room, 13, comes last: a record's own number is session's to say, by its FirstNumber
+-- and LaterNumber
 abbrev pub roomFor : House → ℕ → Verdict → Bool
 roomFor h slot (Refused a) = true
 roomFor h slot (Taken next) = true

@@ -16,7 +16,7 @@ use Rattle.rising.specs.Rising.{risingFrom, rising, rank, held, allBelow
 use Rattle.rising.specs.Laws.{InsertWhole, InsertTaken, InsertLength, RemoveWhole, RemoveTaken, RemoveLength}
 use Rattle.rising.specs.Laws.{RankWithin, RankUp, RankDown, HeldAt, HeldPast, HeldRank, NewRank}
 use Rattle.rising.specs.Laws.{HeldInsert, HeldRemove, RisingInsert, RisingRemove, BelowInsert, BelowRemove}
-use Rattle.rising.specs.Laws.{BelowLast}
+use Rattle.rising.specs.Laws.{BelowLast, RisingApart}
 
 -- ---- tests
 
@@ -361,3 +361,15 @@ remove-length l used at n h g =
     let long = removed-length (take used l) used at n (length-take-le used l g) h in
     let joined = length-append (removed (take used l) at n) (drop (used - n) l) in
     rw (remove-whole l used at n h g) (omega (arith, long, joined, length-drop (used - n) l))
+
+apart-from : (b : ℕ) (xs : List ℕ) (i j : ℕ) → risingFrom b xs ≡ true → i < j → j < length xs
+    → getD xs i 0 < getD xs j 0
+apart-from b [] i j e h l = absurd (not-suc-le-zero l)
+apart-from b (x ∷ xs) i zero e h l = absurd (not-suc-le-zero h)
+apart-from b (x ∷ xs) zero (suc j) e h l = rising-at (suc x) xs j (rising-rest b x xs e) (le-of-suc-le-suc l)
+apart-from b (x ∷ xs) (suc i) (suc j) e h l =
+    apart-from (suc x) xs i j (rising-rest b x xs e) (le-of-suc-le-suc h) (le-of-suc-le-suc l)
+
+pub rising-apart : RisingApart
+unfolding rising
+rising-apart xs i j e h l = apart-from 0 xs i j e h l

@@ -106,3 +106,7 @@ BelowRemove = (b : ℕ) (xs : List ℕ) (at n : ℕ) → allBelow b xs ≡ true 
 abbrev pub BelowLast : Type 0
 BelowLast = (b : ℕ) (xs : List ℕ) (last : ℕ) → rising xs ≡ true → length xs ≡ suc last
     → allBelow b xs ≡ ltb (getD xs last 0) b
+
+-- of two elements of a list that rises the later one is greater
+abbrev pub RisingApart : Type 0
+RisingApart = (xs : List ℕ) (i j : ℕ) → rising xs ≡ true → i < j → j < length xs → getD xs i 0 < getD xs j 0

@@ -17,7 +17,7 @@ use Rattle.rows.specs.Rows.{rowKey, slotOf, heldBy, heldFrom, sumBy, row
 use Rattle.rows.specs.Rows.{slotCount, headOf, binOf, mostHead, mostBin}
 use Rattle.rows.specs.Laws.{HeldRanks, HeldWithin, HeldAll, HeldInsert, SumInsert, SumMore, CountWithin}
 use Rattle.rows.specs.Laws.{RunOwn, HeldOut, HeldOther, SumOut, SumOther}
-use Rattle.rows.specs.Laws.{RightInsert, RightMore, RightRemove, ClosedNone, RightOpen, RightClose, RightOut}
+use Rattle.rows.specs.Laws.{RightAt, RightInsert, RightMore, RightRemove, ClosedNone, RightOpen, RightClose, RightOut}
 
 -- ---- a key and a slot
 
@@ -292,6 +292,14 @@ right-rest : (taken : List Bool) (k c : ℕ) (ks cs : List ℕ)
     → rowsRight taken (k ∷ ks) (c ∷ cs) ≡ true → rowsRight taken ks cs ≡ true
 unfolding rowsRight
 right-rest taken k c ks cs e = both-right (rowRight taken k c) (rowsRight taken ks cs) e
+
+pub right-at : RightAt
+unfolding rowsRight
+right-at taken [] cs i e h = absurd (not-suc-le-zero h)
+right-at taken (k ∷ ks) [] i e h = absurd (false≢true e)
+right-at taken (k ∷ ks) (c ∷ cs) zero e h = right-head taken k c ks cs e
+right-at taken (k ∷ ks) (c ∷ cs) (suc i) e h =
+    right-at taken ks cs i (right-rest taken k c ks cs e) (le-of-suc-le-suc h)
 
 right-cons : (taken : List Bool) (k c : ℕ) (ks cs : List ℕ)
     → rowRight taken k c ≡ true → rowsRight taken ks cs ≡ true → rowsRight taken (k ∷ ks) (c ∷ cs) ≡ true

@@ -72,6 +72,11 @@ SumOther = (s j : ℕ) (ks cs : List ℕ) → rising ks ≡ true → length cs �
 
 -- ---- what keeps every row right
 
+-- each row of right ones is
+abbrev pub RightAt : Type 0
+RightAt = (taken : List Bool) (ks cs : List ℕ) (i : ℕ) → rowsRight taken ks cs ≡ true → i < length ks
+    → rowRight taken (getD ks i 0) (getD cs i 0) ≡ true
+
 -- a right row put in
 abbrev pub RightInsert : Type 0
 RightInsert = (taken : List Bool) (ks cs : List ℕ) (at k c : ℕ) → length cs ≡ length ks

@@ -3,7 +3,7 @@
 -- Assumes nothing.
 use mathlib.Core.Path.{_≡_, refl, ap, sym, subst, _∙_}
 use mathlib.Core.Bool.{Bool, true, false, cond, not, _&&_, false≢true}
-use mathlib.Core.List.{List}
+use mathlib.Core.List.{List, [], _∷_}
 use Prim.Native.Nat.{ℕ, _+_, _-_, _*_, _/_, _%_, _≤_, _<_}
 use native.Mathlib.Numerals.{add-one}
 use native.Mathlib.Omega.{arith}
@@ -12,7 +12,9 @@ use lib.Dec.{eqb, leb, ltb}
 use lib.ListN.{length, getD, take, drop}
 use lib.Seq.{getD-drop, length-take-le}
 use Rattle.words.specs.Choice.{_unless_then_}
+use Rattle.words.specs.Checks.{_else_, numberBy}
 use Rattle.words.proofs.Both.{both-left, both-right}
+use Rattle.words.proofs.Checks.{check-first}
 use Rattle.answers.specs.declared.Answer.{Answer}
 use Rattle.answers.specs.declared.Answer.the-variants as answer
 use Rattle.numbers.specs.declared.Order.{Order}
@@ -55,9 +57,10 @@ use Rattle.session.specs.Judge.{inOrder, judgeIn, judgeOrdered, judgeFir
 use Rattle.session.specs.Judge.{judgePir, judgePrr, judgeMrr, judgeSaid, judgeLater, judge}
 use Rattle.session.specs.After.{after, verdictOn}
 use Rattle.session.specs.Results.{Result, None, Part, resultIn, resultRead, resultOf, ordered, orderIn, ofRecord}
+use Rattle.session.specs.Results.{verdictNumber}
 use Rattle.session.specs.Laws.{counted, Within, KeyRight, SoundKept, JudgedWithin, JudgedSound, JudgedCounts}
 use Rattle.session.specs.Laws.{JudgedFew, JudgedKey, JudgedLong, BegunSound, Begins, Tells, JudgedBegins}
-use Rattle.session.specs.Laws.{JudgedTells, JudgedRefusal}
+use Rattle.session.specs.Laws.{JudgedTells, JudgedRefusal, isKnown, ownChecks, FirstNumber, LaterNumber}
 use Rattle.session.proofs.Laws.{judge-at-start, judge-further}
 
 -- ---- the ways to be accepted
@@ -506,3 +509,69 @@ judged-refusal st parts rec a e =
     (λ k q r named to fits.
     said-cases Own (λ b own. own) (at st q) parts r (λ quieted. tt) (λ p is. tt) (λ p is new few. tt)
     (λ p is there few. tt) (λ is done. tt)))
+
+-- ---- the order of checks, as a list
+
+pub first-number : FirstNumber
+unfolding judgeFirst judgeIn
+first-number st parts rec start =
+    ap verdictNumber (judge-at-start st parts rec start)
+    ∙ check-first verdictNumber _ (leb header (length rec)) _ 3 _ refl (λ a.
+    check-first verdictNumber _ (eqb (recTyp rec) 0 && eqb (recSub rec) 10) _ 8 _ refl (λ b.
+    check-first verdictNumber _ (eqb (length rec) 6) _ 3 _ refl (λ c.
+    by (orderOf (byteOf far 0 (body rec))))))
+  where
+    by : (o : Ordering)
+        → verdictNumber (judgeOrdered st rec o)
+        ≡ numberBy
+        ((isKnown o else 4)
+        ∷ (eqb (recLen (ordered o) rec) 2 else 3)
+        ∷ (eqb (byteOf far 1 (body rec)) 4 else 5)
+        ∷ [])
+    by ordering.Unknown = refl
+    by (ordering.Known order) =
+        check-first verdictNumber _ (eqb (recLen order rec) 2) _ 3 _ refl (λ a.
+        check-first verdictNumber _ (eqb (byteOf far 1 (body rec)) 4) _ 5 0 refl (λ b. refl))
+
+-- a step moves the place alone, which no kind's own checks look at
+own-number : (st : Standing) (parts : List ℕ) (r : Record)
+    → verdictNumber (judgeSaid st parts r) ≡ numberBy (ownChecks st parts r)
+unfolding judgePir judgePrr judgeMrr
+own-number st parts (said.Pir p) =
+    check-first verdictNumber _ (not (held (partOf (p .head) (p .site)) parts)) _ 9 _ refl (λ a.
+    check-first verdictNumber _ (ltb (st .opened) mostOpen) _ 11 0 refl (λ b. refl))
+own-number st parts (said.Prr p) =
+    check-first verdictNumber _ (held (partOf (p .head) (p .site)) parts) _ 10 _ refl (λ a.
+    check-first verdictNumber _ (ltb (st .results) mostResults) _ 14 0 refl (λ b. refl))
+own-number st parts said.Mrr =
+    check-first verdictNumber _ (eqb (st .opened) 0 && st .pcr) _ 12 0 refl (λ a. refl)
+own-number st parts (said.Pcr p) = refl
+own-number st parts (said.Far f) = refl
+own-number st parts said.Mir = refl
+own-number st parts (said.Bin b) = refl
+own-number st parts said.Unread = refl
+
+own-placed : (st : Standing) (q : Place) (parts : List ℕ) (r : Record)
+    → numberBy (ownChecks (at st q) parts r) ≡ numberBy (ownChecks st parts r)
+own-placed st q parts (said.Pir p) = refl
+own-placed st q parts (said.Prr p) = refl
+own-placed st q parts said.Mrr = refl
+own-placed st q parts (said.Pcr p) = refl
+own-placed st q parts (said.Far f) = refl
+own-placed st q parts said.Mir = refl
+own-placed st q parts (said.Bin b) = refl
+own-placed st q parts said.Unread = refl
+
+pub later-number : LaterNumber
+unfolding judgeLater
+later-number st parts rec further =
+    let kind = kindOf (recTyp rec) (recSub rec) in
+    let step = goes (st .place) kind in
+    let reading = readBody (st .order) kind (body rec) in
+    ap verdictNumber (judge-further st parts rec further)
+    ∙ check-first verdictNumber _ (isRecord (st .order) rec) _ 3 _ refl (λ a.
+    check-first verdictNumber _ (known kind) _ 6 _ refl (λ b.
+    check-first verdictNumber _ (inPlace step) _ 8 _ refl (λ c.
+    check-first verdictNumber _ (fitting reading) _ 7 _ refl (λ d.
+    own-number (at st (placeAfter step)) parts (saidOf reading)
+    ∙ own-placed st (placeAfter step) parts (saidOf reading)))))

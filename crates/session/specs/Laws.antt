@@ -7,21 +7,34 @@
 --   Begins     what a verdict on a first record tells, and Tells, on a later one
 -- Assumes nothing.
 use mathlib.Core.Path.{_≡_}
-use mathlib.Core.Bool.{true, false}
-use mathlib.Core.List.{List}
+use mathlib.Core.Bool.{Bool, true, false, not, _&&_}
+use mathlib.Core.List.{List, [], _∷_}
 use Prim.Native.Nat.{ℕ, _+_, _/_, _%_, _≤_, _<_}
+use lib.Dec.{eqb, leb, ltb}
 use lib.ListN.{length, take}
+use Rattle.words.specs.Checks.{Check, _else_, numberBy}
 use Rattle.numbers.specs.Laws.{Bytes}
 use Rattle.answers.specs.declared.Answer.{Answer}
 use Rattle.numbers.specs.declared.Order.{Order}
+use Rattle.numbers.specs.declared.Ordering.{Ordering}
+use Rattle.numbers.specs.declared.Ordering.the-variants as ordering
+use Rattle.numbers.specs.Orders.{orderOf}
+use Rattle.kinds.specs.Kinds.{kindOf, known}
+use Rattle.frames.specs.Frames.{header, recLen, recTyp, recSub, body, isRecord}
+use Rattle.fields.specs.Tables.{far}
+use Rattle.bodies.specs.declared.Record.{Record}
+use Rattle.bodies.specs.declared.Record.the-variants as said
+use Rattle.bodies.specs.Bodies.{byteOf, readBody, fitting, saidOf}
+use Rattle.order.specs.Order.{goes, inPlace}
+use Rattle.rising.specs.Rising.{held}
 use Rattle.session.specs.declared.Session.{Session}
 use Rattle.session.specs.declared.Standing.{Standing}
 use Rattle.session.specs.declared.Verdict.{Verdict}
 use Rattle.session.specs.declared.Verdict.the-variants.{Refused, Taken, Opened, Wanted}
-use Rattle.session.specs.Session.{mostOpen, mostResults, pastParts, isStart, begun, sound, Kept}
+use Rattle.session.specs.Session.{mostOpen, mostResults, pastParts, partOf, isStart, begun, sound, Kept}
 use Rattle.session.specs.Judge.{judge}
 use Rattle.session.specs.After.{after, verdictOn}
-use Rattle.session.specs.Results.{None, Part, resultOf, orderIn, ofRecord}
+use Rattle.session.specs.Results.{None, Part, resultOf, orderIn, ofRecord, verdictNumber}
 
 abbrev pub counted : Verdict → ℕ
 counted (Refused a) = 0
@@ -109,3 +122,48 @@ JudgedTells = (st : Standing) (parts rec : List ℕ) → isStart (st .place) ≡
 abbrev pub JudgedRefusal : Type 0
 JudgedRefusal = (st : Standing) (parts rec : List ℕ) (a : Answer) → judge st parts rec ≡ Refused a
     → ofRecord a ≡ true
+
+-- ---- the order of checks, as a list
+
+abbrev pub isKnown : Ordering → Bool
+isKnown (ordering.Known order) = true
+isKnown ordering.Unknown = false
+
+-- First record: under 4 bytes 3; not FAR 8; not 6 bytes 3; 4; a length field that isn't 2 in the CPU's order 3; 5
+abbrev pub FirstNumber : Type 0
+FirstNumber = (st : Standing) (parts rec : List ℕ) → isStart (st .place) ≡ true
+    → verdictNumber (judge st parts rec)
+    ≡ numberBy
+    ((leb header (length rec) else 3)
+    ∷ ((eqb (recTyp rec) 0 && eqb (recSub rec) 10) else 8)
+    ∷ (eqb (length rec) 6 else 3)
+    ∷ (isKnown (orderOf (byteOf far 0 (body rec))) else 4)
+    ∷ (eqb (recLen (orderIn rec) rec) 2 else 3)
+    ∷ (eqb (byteOf far 1 (body rec)) 4 else 5)
+    ∷ [])
+
+-- the checks of a kind's own: 9, 11; 10, 14; 12
+abbrev pub ownChecks : Standing → List ℕ → Record → List Check
+ownChecks st parts (said.Pir p) =
+    (not (held (partOf (p .head) (p .site)) parts) else 9) ∷ (ltb (st .opened) mostOpen else 11) ∷ []
+ownChecks st parts (said.Prr p) =
+    (held (partOf (p .head) (p .site)) parts else 10) ∷ (ltb (st .results) mostResults else 14) ∷ []
+ownChecks st parts said.Mrr = ((eqb (st .opened) 0 && st .pcr) else 12) ∷ []
+ownChecks st parts (said.Pcr p) = []
+ownChecks st parts (said.Far f) = []
+ownChecks st parts said.Mir = []
+ownChecks st parts (said.Bin b) = []
+ownChecks st parts said.Unread = []
+
+-- Later records: 3, 6, 8, 7, then 9 or 10, 11, 12, 14; room, 13, is the house's to judge, and last
+abbrev pub LaterNumber : Type 0
+LaterNumber = (st : Standing) (parts rec : List ℕ) → isStart (st .place) ≡ false
+    → let kind = kindOf (recTyp rec) (recSub rec) in
+    let reading = readBody (st .order) kind (body rec) in
+    verdictNumber (judge st parts rec)
+    ≡ numberBy
+    ((isRecord (st .order) rec else 3)
+    ∷ (known kind else 6)
+    ∷ (inPlace (goes (st .place) kind) else 8)
+    ∷ (fitting reading else 7)
+    ∷ ownChecks st parts (saidOf reading))

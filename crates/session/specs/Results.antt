@@ -4,12 +4,14 @@
 --   resultOf    the part result that a record is, by its key, or none: PRR's head, site and hardware bin
 --   orderIn     the byte order that a first record tells
 --   ofRecord    the answers that a record by itself may be refused with
+--   verdictNumber   the number of a verdict
 -- Assumes nothing.
 use Prim.Native.Nat.{ℕ}
 use mathlib.Core.Bool.{Bool, true, false}
 use mathlib.Core.List.{List}
 use Rattle.answers.specs.declared.Answer.{Answer}
 use Rattle.answers.specs.declared.Answer.the-variants as answer
+use Rattle.answers.specs.Numbers.{numberOf}
 use Rattle.numbers.specs.declared.Order.{Order}
 use Rattle.numbers.specs.declared.Order.the-variants.{HighFirst}
 use Rattle.numbers.specs.declared.Ordering.{Ordering}
@@ -23,6 +25,8 @@ use Rattle.bodies.specs.declared.Record.the-variants as said
 use Rattle.bodies.specs.declared.Reading.{Reading}
 use Rattle.bodies.specs.declared.Reading.the-variants.{Fits, Misfit}
 use Rattle.bodies.specs.Bodies.{byteOf, readBody}
+use Rattle.session.specs.declared.Verdict.{Verdict}
+use Rattle.session.specs.declared.Verdict.the-variants.{Refused, Taken, Opened, Wanted}
 use Rattle.session.specs.Session.{keyOf}
 
 pub data Result : Type 0 where
@@ -78,3 +82,10 @@ ofRecord answer.FloorTooHigh = false
 ofRecord answer.OutputTooShort = false
 ofRecord answer.NotACountLine = false
 ofRecord answer.NameNotText = false
+
+-- a part result that passes all these is still to be judged for room
+abbrev pub verdictNumber : Verdict → ℕ
+verdictNumber (Refused a) = numberOf a
+verdictNumber (Taken next) = 0
+verdictNumber (Opened next rank part) = 0
+verdictNumber (Wanted next rank key) = 0
