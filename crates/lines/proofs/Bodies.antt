@@ -10,6 +10,7 @@ use lib.Dec.{leb, ltb}
 use lib.ListN.{length, getD, drop, length-append}
 use lib.Seq.{drop-append-seam, drop-at, drop-drop, drop-nil}
 use Rattle.words.specs.Each.{each}
+use Rattle.words.proofs.Never.{false-true}
 use Rattle.words.proofs.Both.{both-left, both-right}
 use Rattle.numbers.specs.declared.Order.{Order}
 use Rattle.numbers.specs.Numbers.{written, past}
@@ -27,7 +28,7 @@ use Rattle.layouts.specs.Entries.{Entry, Missing, Number, Text, kept, present}
 use Rattle.layouts.specs.Layouts.{isName, missingValue, stored, laid}
 use Rattle.texts.specs.Pieces.{isNumber, letterFits}
 use Rattle.texts.specs.Laws.{entryFits, entriesFit}
-use Rattle.lines.proofs.Most.{false-true, laid-none}
+use Rattle.lines.proofs.Most.{laid-none}
 
 -- a column's type in the tables of `fields`: its width, 0 where a count byte tells it
 abbrev pub typeOf : Form → ℕ
@@ -68,7 +69,8 @@ module _ (order : Order) where
   missing-sized U2 = number-sized U2 (missingValue U2) refl
   missing-sized U4 = number-sized U4 (missingValue U4) refl
   missing-sized C1 = number-sized C1 (missingValue C1) refl
-  missing-sized Cn = rw (one-written order 0 (omega arith)) (record { some = omega arith; few = omega arith; is = refl })
+  missing-sized Cn =
+      rw (one-written order 0 (omega arith)) (record { some = omega arith; few = omega arith; is = refl })
 
   value-sized : (form : Form) (n : ℕ) → isNumber form ≡ true → Sized form (stored order form (Number n))
   value-sized U1 n e = number-sized U1 n refl
@@ -85,7 +87,8 @@ module _ (order : Order) where
   text-sized C1 most bytes e some few room = record { some = some; few = omega arith; is = omega arith }
   text-sized Cn most bytes e some few room = name-sized bytes (omega arith)
 
-  pub entry-sized : (c : Column) (e : Entry) → roomy c ≡ true → entryFits c e ≡ true → Sized (c .0) (stored order (c .0) e)
+  pub entry-sized : (c : Column) (e : Entry) → roomy c ≡ true → entryFits c e ≡ true
+      → Sized (c .0) (stored order (c .0) e)
   entry-sized c Missing room e = missing-sized (c .0)
   entry-sized c (Number n) room e = value-sized (c .0) n (both-left (isNumber (c .0)) (leb n (c .1)) e)
   entry-sized c (Text []) room e = false-true e
@@ -191,6 +194,19 @@ module _ (order : Order) where
         (λ e es s at. sym (drop-drop w k body) ∙ ap (drop w) (at ∙ laid-first e es)
         ∙ drop-at (stored order (c .0) e) (laidIn cs es) w s)
 
+  module _ (c : Column) (cs : List Column) (x : Entry) (es : List Entry) (room : each roomy (c ∷ cs) ≡ true)
+      (e : entriesFit (c ∷ cs) (x ∷ es) ≡ true) where
+    first-sized : Sized (c .0) (stored order (c .0) x)
+    first-sized =
+        entry-sized order c x (both-left (roomy c) (each roomy cs) room)
+        (both-left (entryFits c x) (entriesFit cs es) e)
+
+    rest-roomy : each roomy cs ≡ true
+    rest-roomy = both-right (roomy c) (each roomy cs) room
+
+    rest-fit : entriesFit cs es ≡ true
+    rest-fit = both-right (entryFits c x) (entriesFit cs es) e
+
   -- a body with its required fields fits its table
   pub laid-fits : (cs : List Column) (es : List Entry) (required : ℕ) → each roomy cs ≡ true → entriesFit cs es ≡ true
       → required ≤ length (present es) → fits (types cs) required (laidIn cs (present es)) ≡ true
@@ -198,11 +214,8 @@ module _ (order : Order) where
   laid-fits [] (x ∷ es) required room e few = false-true e
   laid-fits (c ∷ cs) [] required room e few = false-true e
   laid-fits (c ∷ cs) (x ∷ es) required room e few =
-      fits-kept c cs x (present es) required
-      (entry-sized order c x (both-left (roomy c) (each roomy cs) room) (both-left (entryFits c x) (entriesFit cs es) e))
-      few
-      (λ more. laid-fits cs es (required - 1) (both-right (roomy c) (each roomy cs) room)
-      (both-right (entryFits c x) (entriesFit cs es) e) more)
+      fits-kept c cs x (present es) required (first-sized c cs x es room e) few
+      (λ more. laid-fits cs es (required - 1) (rest-roomy c cs x es room e) (rest-fit c cs x es room e) more)
 
   -- REC_LEN holds its length
   pub laid-short : (cs : List Column) (es : List Entry) → each roomy cs ≡ true → entriesFit cs es ≡ true
@@ -213,8 +226,6 @@ module _ (order : Order) where
   laid-short (c ∷ cs) (x ∷ es) room e =
       omega (
         arith,
-        length-kept c cs x (present es)
-            (entry-sized order c x (both-left (roomy c) (each roomy cs) room)
-            (both-left (entryFits c x) (entriesFit cs es) e)),
-        laid-short cs es (both-right (roomy c) (each roomy cs) room) (both-right (entryFits c x) (entriesFit cs es) e),
+        length-kept c cs x (present es) (first-sized c cs x es room e),
+        laid-short cs es (rest-roomy c cs x es room e) (rest-fit c cs x es room e),
       )

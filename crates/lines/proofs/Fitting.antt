@@ -11,9 +11,9 @@ use lib.Dec.{eqb, leb}
 use lib.ListN.{length, getD, take, drop}
 use lib.Seq.{getD-drop, drop-cons}
 use Rattle.words.specs.Each.{each}
+use Rattle.words.proofs.Never.{false-true}
 use Rattle.words.proofs.Both.{both-left, both-right}
 use Rattle.words.proofs.Each.{each-at}
-use Rattle.answers.specs.declared.Answer.{Answer}
 use Rattle.numbers.specs.declared.Order.{Order}
 use Rattle.numbers.specs.Numbers.{number, front}
 use Rattle.numbers.specs.Laws.{Bytes}
@@ -35,18 +35,13 @@ use Rattle.layouts.specs.Columns.{binColumns}
 use Rattle.layouts.specs.Names.{allowed}
 use Rattle.layouts.specs.Entries.{Entry, Missing, Number, Text, Meaning, entryOf, meaningOf}
 use Rattle.layouts.specs.Judging.{Says, byFault}
+use Rattle.layouts.proofs.Faults.{found-none}
 use Rattle.records.specs.Records.{siteSaid, countSaid, letterSaid, nameSaid, pcrLine, binLine, ofReading, isCount}
 use Rattle.records.specs.Records.{judged, meaning}
 use Rattle.records.proofs.Judges.{judged-body, none-frame, none-count}
 use Rattle.texts.specs.Laws.{entryFits, entriesFit, Fitting}
 use Rattle.texts.specs.Texts.{sitesFit}
 use Rattle.lines.specs.Writing.{entryAllowed}
-
-found-none : {A : Type 0} (answer : Answer) → Found answer ≡ None → A
-found-none answer e = let never : _≡_ {A = ℕ} 0 1 = cc in absurd (omega arith)
-
-false-true : {A : Type 0} → _≡_ {A = Bool} false true → A
-false-true e = let never : _≡_ {A = ℕ} 0 1 = cc in absurd (omega arith)
 
 -- ---- numbers of a body are in range
 

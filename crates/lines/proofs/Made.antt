@@ -7,6 +7,7 @@ use Prim.Native.Nat.{ℕ, _-_, _<_}
 use native.Mathlib.Omega.{arith}
 use borrow.Author.Tests.{eq-eqb, leb-true}
 use lib.ListN.{length, getD, drop}
+use Rattle.words.proofs.Never.{false-true}
 use Rattle.numbers.specs.declared.Order.{Order}
 use Rattle.numbers.specs.declared.Order.the-variants.{HighFirst, LowFirst}
 use Rattle.numbers.specs.Numbers.{number, front, written}
@@ -32,7 +33,6 @@ use Rattle.records.specs.Records.{siteSaid, countSaid, letterSaid, nameSaid, bi
 use Rattle.records.proofs.Judges.{judged-body}
 use Rattle.texts.specs.Texts.{sitesFit}
 use Rattle.texts.specs.Laws.{entriesFit, Fitting}
-use Rattle.lines.proofs.Most.{false-true}
 use Rattle.lines.proofs.Bodies.{laidIn, laid-first, behind, laid-fits, laid-short, roomy-columns}
 use Rattle.lines.proofs.Bodies.{length-kept-two, length-fit, fit-at}
 use Rattle.lines.proofs.Stored.{number-at, no-text, sites-at, count-at, letter-at, name-at}
@@ -133,7 +133,8 @@ module _ (order : Order) where
         let at2 = sites .behind-is ∙ laid-first order parts (drop 3 pcrColumns) (Number n) ps in
         let at6 = behind order parts (drop 3 pcrColumns) b 2 4 (Number n) ps (length-written order 4 n)
         (sites .behind-is) in
-        let r = count-at order b 6 (drop 4 pcrColumns) retest (present (drop 4 pcrEntries)) (fit 3 e (omega arith)) at6 in
+        let r = count-at order b 6 (drop 4 pcrColumns) retest (present (drop 4 pcrEntries)) (fit 3 e (omega arith))
+        at6 in
         let a = count-at order b 10 (drop 5 pcrColumns) abort (present (drop 5 pcrEntries)) (fit 4 e (omega arith))
         (r .1) in
         let g = count-at order b 14 (drop 6 pcrColumns) good (present (drop 6 pcrEntries)) (fit 5 e (omega arith))
@@ -165,7 +166,8 @@ module _ (order : Order) where
         let at4 = behind order bins (drop 3 binColumns) b 2 2 (Number n) (Number count ∷ ps) (length-written order 2 n)
         (sites .behind-is) in
         let at8 = behind order counts (drop 4 binColumns) b 4 4 (Number count) ps (length-written order 4 count) at4 in
-        let l = letter-at order b (drop 5 binColumns) letter (present (drop 5 binEntries)) (fit 4 e (omega arith)) at8 in
+        let l = letter-at order b (drop 5 binColumns) letter (present (drop 5 binEntries)) (fit 4 e (omega arith))
+        at8 in
         let m = name-at order b name (fit 5 e (omega arith)) (l .behind-is) in
         let low = fit 2 e (omega arith) in
         let small = leb-true n 32_767 low in

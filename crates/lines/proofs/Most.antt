@@ -9,6 +9,7 @@ use borrow.Author.Tests.{ltb-true, ltb-false, leb-true, not-true}
 use lib.Dec.{ltb, leb}
 use lib.ListN.{length, length-append}
 use Rattle.words.specs.Each.{each}
+use Rattle.words.proofs.Never.{false-true}
 use Rattle.words.proofs.Both.{both-left, both-right}
 use Rattle.digits.specs.Digits.{digits}
 use Rattle.digits.proofs.Laws.{by-quotient, length-one, length-more, digits-some}
@@ -23,9 +24,6 @@ use Rattle.layouts.specs.Entries.{Entry, Missing, Number, Text, Meaning, kept, 
 use Rattle.layouts.specs.Layouts.{isName, entryText, mark, isLast, laid, textOf}
 use Rattle.texts.specs.Pieces.{isNumber, letterFits}
 use Rattle.texts.specs.Laws.{entryFits, entriesFit, Fitting}
-
-pub false-true : {A : Type 0} → _≡_ {A = Bool} false true → A
-false-true e = let never : _≡_ {A = ℕ} 0 1 = cc in absurd (omega arith)
 
 -- a greater number has no fewer digits
 digits-rising : (m n : ℕ) → n ≤ m → length (digits n) ≤ length (digits m)

@@ -1,26 +1,26 @@
 -- The two calls, one after the other: what the first leaves in its output is what the second is given.
 -- Assumes nothing.
-use mathlib.Core.Path.{_≡_, refl, ap, sym, _∙_}
+use mathlib.Core.Path.{_≡_, refl, sym, _∙_}
 use mathlib.Core.Bool.{Bool, true, false, cond, not, _&&_}
-use mathlib.Core.List.{List, [], _∷_, _++_}
-use Prim.Native.Nat.{ℕ, _+_, _≤_}
+use mathlib.Core.List.{List, [], _∷_}
+use Prim.Native.Nat.{ℕ, _≤_}
 use Prim.Native.Char.{code}
 use native.Mathlib.Omega.{arith}
 use borrow.Author.Tests.{leb-true, eqb-true, not-true}
 use lib.Dec.{eqb, leb}
-use lib.ListN.{length, take, drop}
-use lib.Seq.{length-take-le, take-at, drop-at}
+use lib.ListN.{length}
 use Rattle.words.specs.Each.{each}
+use Rattle.words.proofs.Never.{false-true}
 use Rattle.words.proofs.Both.{both-left, both-right}
-use Rattle.answers.specs.declared.Answer.{Answer}
-use Rattle.answers.specs.declared.Answer.the-variants.{OutputTooShort, NameNotText, UnknownOrder}
+use Rattle.answers.specs.declared.Answer.the-variants.{NameNotText, UnknownOrder}
 use Rattle.numbers.specs.declared.Order.{Order}
 use Rattle.numbers.specs.declared.Ordering.{Ordering}
 use Rattle.numbers.specs.declared.Ordering.the-variants.{Known, Unknown}
 use Rattle.numbers.specs.Orders.{orderOf}
 use Rattle.numbers.specs.Laws.{Bytes}
 use Rattle.placing.specs.declared.Written.the-variants as written
-use Rattle.placing.specs.Placed.{part, Outcome, outcome, refused, placedAt, placed}
+use Rattle.placing.specs.Placed.{part, outcome, placed}
+use Rattle.placing.proofs.Laws.{refused-bytes, placed-part}
 use Rattle.layouts.specs.declared.Form.{Form}
 use Rattle.layouts.specs.declared.Form.the-variants.{U1, U2, U4, C1, Cn}
 use Rattle.layouts.specs.declared.Column.{Column}
@@ -38,35 +38,8 @@ use Rattle.lines.specs.Writing.{entryAllowed, textMade}
 use Rattle.lines.specs.Reading.{recordIn}
 use Rattle.lines.specs.Laws.{ReadBack, WrittenBack, ThereAndBack, BackAgain}
 use Rattle.lines.proofs.Fitting.{record-fits}
-use Rattle.lines.proofs.Most.{false-true}
 use Rattle.lines.proofs.Bodies.{roomy, roomy-columns}
 use Rattle.lines.proofs.Made.{record-read}
-
--- ---- bytes that were placed stand at their offset
-
-refused-bytes : {A : Type 0} (answer : Answer) (old : List ℕ) (n : ℕ) (new : List ℕ)
-    → refused answer old ≡ outcome (written.Bytes n) new → A
-refused-bytes answer old n new e =
-    let apart : written.Refused answer ≡ written.Bytes n = ap (λ (o : Outcome). o .answer) e in
-    let never : _≡_ {A = ℕ} 0 1 = cc in absurd (omega arith)
-
-placed-part : (bytes old : List ℕ) (at n : ℕ) (new : List ℕ) → placedAt bytes old at ≡ outcome (written.Bytes n) new
-    → part at n new ≡ bytes
-unfolding placedAt
-placed-part bytes old at n new e = go (leb (at + length bytes) (length old)) refl
-  where
-    go : (t : Bool) → leb (at + length bytes) (length old) ≡ t → part at n new ≡ bytes
-    go false f = refused-bytes OutputTooShort old n new (rw f at e)
-    go true f =
-        let room = leb-true (at + length bytes) (length old) f in
-        let rest = drop (at + length bytes) old in
-        let done : outcome (written.Bytes (length bytes)) (take at old ++ (bytes ++ rest)) ≡ outcome (written.Bytes n) new =
-        rw f at e in
-        let answers : written.Bytes (length bytes) ≡ written.Bytes n = ap (λ (o : Outcome). o .answer) done in
-        let size : length bytes ≡ n = cc in
-        let all : take at old ++ (bytes ++ rest) ≡ new = ap (λ (o : Outcome). o .output) done in
-        let front = length-take-le at old (omega arith) in
-        rw (← all, ← size, drop-at (take at old) (bytes ++ rest) at front) (take-at bytes rest (length bytes) refl)
 
 -- ---- what a line says can be written
 
@@ -109,10 +82,11 @@ allowed-entries [] [] room e = refl
 allowed-entries [] (x ∷ es) room e = false-true e
 allowed-entries (c ∷ cs) [] room e = refl
 allowed-entries (c ∷ cs) (x ∷ es) room e =
-    rw (
-      allowed-entry c x (both-left (roomy c) (each roomy cs) room) (both-left (entryFits c x) (entriesFit cs es) e),
-      allowed-entries cs es (both-right (roomy c) (each roomy cs) room) (both-right (entryFits c x) (entriesFit cs es) e),
-    )
+    let first = allowed-entry c x (both-left (roomy c) (each roomy cs) room)
+    (both-left (entryFits c x) (entriesFit cs es) e) in
+    let rest = allowed-entries cs es (both-right (roomy c) (each roomy cs) room)
+    (both-right (entryFits c x) (entriesFit cs es) e) in
+    rw (first, rest)
 
 -- ---- a record to its line, and back
 

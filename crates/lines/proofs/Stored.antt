@@ -12,6 +12,7 @@ use lib.Dec.{eqb, leb}
 use lib.ListN.{length, getD, drop, length-append, length-drop, drop-of-length-le}
 use lib.Seq.{getD-drop, drop-drop, take-at}
 use Rattle.words.specs.Each.{each}
+use Rattle.words.proofs.Never.{false-true}
 use Rattle.words.proofs.Both.{both-left}
 use Rattle.words.proofs.Parts.{part-from}
 use Rattle.numbers.specs.declared.Order.{Order}
@@ -30,7 +31,7 @@ use Rattle.records.specs.Records.{siteSaid, countSaid, letterSaid, nameSaid}
 use Rattle.texts.specs.Pieces.{isNumber, letterFits}
 use Rattle.texts.specs.Texts.{sitesFit}
 use Rattle.texts.specs.Laws.{entryFits}
-use Rattle.lines.proofs.Most.{false-true, laid-none}
+use Rattle.lines.proofs.Most.{laid-none}
 use Rattle.lines.proofs.Bodies.{laidIn, laid-first, behind}
 
 -- ---- bytes at a place
@@ -64,7 +65,8 @@ module _ (body : List ℕ) (k : ℕ) where
   pub number-at : (order : Order) (w n : ℕ) (rest : List ℕ) → n < past w → drop k body ≡ written order w n ++ rest
       → number order (front w k body) ≡ n
   number-at order w n rest small at =
-      ap (number order) (front-at w (written order w n) rest (length-written order w n) at) ∙ read-written order w n small
+      ap (number order) (front-at w (written order w n) rest (length-written order w n) at)
+      ∙ read-written order w n small
 
 -- ---- head and site
 
@@ -238,7 +240,8 @@ module _ (body : List ℕ) where
       → entryOf body (nameSaid (nameAt body 9)) ≡ Text bytes
   unfolding nameAt
   name-here bytes rest some at =
-      let there = le-leb 10 (length body) (omega (arith, inside body 9 (length bytes ∷ []) (bytes ++ rest) (omega arith) at)) in
+      let begun = inside body 9 (length bytes ∷ []) (bytes ++ rest) (omega arith) at in
+      let there = le-leb 10 (length body) (omega arith) in
       let byte = byte-at body 9 (length bytes) (bytes ++ rest) at in
       let other = ne-eqb (length bytes) 0 (λ (e : length bytes ≡ 0). absurd (omega arith)) in
       let behind-count : drop 10 body ≡ bytes ++ rest = sym (drop-drop 1 9 body) ∙ ap (drop 1) at in

@@ -64,10 +64,11 @@ pub record ReadBack (cpu : ℕ) (order : Order) (s text : List ℕ) : Type 0 whe
 -- Any record, written and read back, has the same meaning but for the site under head 255: the n bytes that a writing
 -- of it left at their offset are such a text. The site under head 255 is no part of a meaning
 abbrev pub ThereAndBack : Type 0
-ThereAndBack = (cpu : ℕ) (order : Order) → orderOf cpu ≡ Known order → (s old : List ℕ) (at n : ℕ) (new : List ℕ) → Bytes s
+ThereAndBack = (cpu : ℕ) (order : Order) → orderOf cpu ≡ Known order
+    → (s old : List ℕ) (at n : ℕ) (new : List ℕ) → Bytes s
     → lineWritten cpu s old at ≡ outcome (written.Bytes n) new → ReadBack cpu order s (part at n new)
 
--- the record of a line is written as the canonical line of a meaning, which is that of the line and of its canonical line
+-- the record of a line is written as the canonical line of a meaning: that of the line, and of its canonical line
 pub record WrittenBack (cpu : ℕ) (line s : List ℕ) : Type 0 where
   pub said : Meaning
   pub means : lineMeaning line ≡ Says said

@@ -1,6 +1,5 @@
 -- Writing: from a record to its line. Document 01, "Count lines", Written, and orders of checks, Writing checks 4, 3,
--- 6, 7, 19,
--- 17.
+-- 6, 7, 19, 17.
 --
 --   entryAllowed  whether an entry can be written as text
 --   textFor       the text that a record makes, or what it is refused with

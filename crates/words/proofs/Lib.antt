@@ -1,5 +1,6 @@
 pub mod Once
 pub mod Parts
 pub mod Both
+pub mod Never
 pub mod Table
 pub mod Each
