@@ -9,7 +9,7 @@ import re
 import sys
 
 SLOTS, ROWS, MOST_PARTS, MOST_RESULTS, MOST_BIN = 16, 1024, 32, 4294967295, 32767
-LONGEST_LINE = 140000
+LONGEST_LINE, MOST_LENT, MOST_PLACE = 140000, 4096, 2**64 - 1
 COUNTED = "n"  # a C*n or B*n field: its first byte tells its length
 
 # the fields of each body that is read: required, then optional
@@ -209,8 +209,102 @@ class House:
         return " ".join([f"0 {len(rows)}"] + ["%d/%d/%d=%d" % (key + (count,)) for key, count in rows])
 
 
-def number(word):
-    if not re.fullmatch(rb"[0-9]{1,10}", word) or int(word) > 4294967295:
+COUNT_SUBTYPES = {"PCR": 30, "HBR": 40, "SBR": 50}
+NOT_COUNTED = 4294967295  # the missing value of the last four counts of PCR
+NAME = re.compile(rb"[\x20-\x7b\x7d\x7e]*")
+LINE = re.compile(rb"(PCR|HBR|SBR):([^\r\n]*)(\r\n|\r|\n)?")
+ORDERS = {1: "big", 2: "little"}
+
+
+def line_of(order, rec):
+    """The line of a record, or the number that it is refused with: 4, 3, 6, 7, 19."""
+    if order not in ORDERS:
+        return 4
+    if len(rec) < 4 or int.from_bytes(rec[:2], ORDERS[order]) != len(rec) - 4:
+        return 3
+    kind, body = kind_of(rec[2], rec[3]), rec[4:]
+    if kind not in COUNT_SUBTYPES:
+        return 6
+    if not body_fits(kind, body, ORDERS[order]):
+        return 7
+    decimal = lambda a, b: b"%d" % int.from_bytes(body[a:b], ORDERS[order])
+    fields = [b"", b""] if body[0] == 255 else [b"%d" % body[0], b"%d" % body[1]]
+    if kind == "PCR":
+        counts = [decimal(at, at + 4) for at in range(2, len(body), 4)]
+        fields += counts[:1] + [b"" if int(n) == NOT_COUNTED else n for n in counts[1:]]
+    else:
+        name = body[10:]
+        if not NAME.fullmatch(name):
+            return 19
+        fields += [decimal(2, 4), decimal(4, 8), body[8:9].replace(b" ", b""), name]
+    return kind.encode() + b":" + b"|".join(fields).rstrip(b"|") + b"\n"
+
+
+def in_range(text, most, size, order):
+    """The bytes of a number in text."""
+    if not re.fullmatch(rb"[0-9]{1,10}", text) or int(text) > most:
+        raise ValueError
+    return int(text).to_bytes(size, order)
+
+
+def body_of(kind, fields, order):
+    """The body that a line's fields make; a ValueError where they are none."""
+    if kind == "PCR":
+        columns = [(4, NOT_COUNTED)] + [(4, NOT_COUNTED - 1)] * 4
+    else:
+        columns = [(2, MOST_BIN), (4, 4294967295)]
+    head, site, *rest = fields + [b""] * 7
+    if (head == b"") != (site == b""):
+        raise ValueError
+    sites = b"\xff\xff" if head == b"" else in_range(head, 254, 1, order) + in_range(site, 255, 1, order)
+    if len(fields) > (7 if kind == "PCR" else 6):
+        raise ValueError
+    parts = []  # each field's bytes and, where it is missing, None
+    for (size, most), text in zip(columns, rest):
+        parts.append(None if text == b"" else in_range(text, most, size, order))
+    if None in (parts[:1] if kind == "PCR" else parts):
+        raise ValueError
+    blank = [b"\xff" * 4] * 7
+    if kind != "PCR":
+        letter, name = rest[2], rest[3]
+        if letter and letter[:1] not in (b"P", b"F") or not NAME.fullmatch(name):
+            raise ValueError
+        parts += [letter[:1] or None, bytes([len(name[:255])]) + name[:255] if name else None]
+        blank = [b"", b"", b" ", b""]
+    while parts[-1] is None:
+        parts.pop()
+    return sites + b"".join(gap if part is None else part for part, gap in zip(parts, blank))
+
+
+def record_of(order, line):
+    """The record of a line, or the number that it is refused with: 4, 18."""
+    if order not in ORDERS:
+        return 4
+    found = LINE.fullmatch(line)
+    if not found:
+        return 18
+    kind = found[1].decode()
+    try:
+        body = body_of(kind, found[2].split(b"|"), ORDERS[order])
+    except ValueError:
+        return 18
+    return len(body).to_bytes(2, ORDERS[order]) + bytes([1, COUNT_SUBTYPES[kind]]) + body
+
+
+def placed(made, at, length):
+    """What a lent output of so many bytes is after bytes were placed in it, or not: 17 last."""
+    out = bytearray(b"\xaa" * length)
+    if isinstance(made, bytes):
+        if at + len(made) > length:
+            made = 17
+        else:
+            out[at : at + len(made)] = made
+            made = f"0 {len(made)}"
+    return f"{made} {out.hex() or '-'}"
+
+
+def number(word, digits=10, most=4294967295):
+    if not re.fullmatch(rb"[0-9]{1,%d}" % digits, word) or int(word) > most:
         raise ValueError
     return int(word)
 
@@ -236,6 +330,12 @@ def answer(house, words):
         return house.report(number(given[0]), number(given[1]))
     if name == b"deliver" and len(given) == 2:
         return house.deliver(number(given[0]), hex_bytes(given[1]))
+    if name in (b"write", b"read") and len(given) == 4:
+        order, at, length = number(given[0]), number(given[1], 20, MOST_PLACE), number(given[2])
+        if length > MOST_LENT:
+            raise ValueError
+        make = line_of if name == b"write" else record_of
+        return placed(make(order, hex_bytes(given[3])), at, length)
     raise ValueError
 
 

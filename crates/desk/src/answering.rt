@@ -1,4 +1,5 @@
 // The calls and their answers: each takes the house and gives back the house after it.
+use crate::count_lines::line_call;
 use crate::parsing::Number;
 use crate::parsing::Verb;
 use crate::parsing::is_hex;
@@ -94,7 +95,8 @@ fn answer_one(house: House, verb: Verb, word: &[u8]) -> House {
     }
 }
 
-// A verb with a slot, and a second word that starts at `from`. No word that is taken has a space in it.
+// A verb with a first word, a slot or a byte order, and what starts at `from`: a second word, in which no space is
+// taken, or the words of a count line's call.
 fn answer_two(house: House, verb: Verb, slot: Number, line: &mut [u8], from: usize) -> House
     requires { ⌜ from ≤ length (now line) ⌝ }
 {
@@ -102,6 +104,8 @@ fn answer_two(house: House, verb: Verb, slot: Number, line: &mut [u8], from: usi
         Verb::Open => open_call(house, slot, number_of(&line[from..])),
         Verb::Deliver => deliver_call(house, slot, line, from),
         Verb::Report => report_call(house, slot, number_of(&line[from..])),
+        Verb::Write => line_call(house, verb, slot, line, from),
+        Verb::Read => line_call(house, verb, slot, line, from),
         _ => no_call(house),
     }
 }

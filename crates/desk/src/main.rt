@@ -8,14 +8,22 @@
 //     close SLOT            N
 //     figures               N, or: 0 FREE PROMISED
 //
-// One space stands between words. Hex is lower case, `-` is no bytes; numbers are decimal, one to ten digits. A line
-// that begins with `#` is copied, an empty one stays empty, and any other line that is no call answers `?`.
+// And "Count lines": a record to its line, a line to its record, at the offset AT of a lent output of LENGTH bytes,
+// each `aa` before the call. It is shown whole afterwards.
+//
+//     write ORDER AT LENGTH HEX    N OUT, or: 0 BYTES OUT
+//     read ORDER AT LENGTH HEX     N OUT, or: 0 BYTES OUT
+//
+// One space stands between words. Hex is lower case, `-` is no bytes; numbers are decimal, one to ten digits, AT one to
+// twenty. A line that begins with `#` is copied, an empty one stays empty, and any other line that is no call answers
+// `?`, one with a LENGTH above 4,096 among them.
 mod answering;
-mod lines;
+mod count_lines;
+mod input;
 mod parsing;
 mod report;
 mod text;
 
 fn main() {
-    lines::answer_all();
+    input::answer_all();
 }

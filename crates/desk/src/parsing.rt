@@ -10,12 +10,20 @@ pub(crate) enum Verb {
     Report,
     Close,
     Figures,
+    Write,
+    Read,
     Other,
 }
 
 // A word as a number.
 pub(crate) enum Number {
     Is(u32),
+    Not,
+}
+
+// A word as a number that may be as large as any place in memory.
+pub(crate) enum Wide {
+    Is(u64),
     Not,
 }
 
@@ -68,6 +76,12 @@ pub(crate) fn verb_of(word: &[u8]) -> Verb {
     if is_name(word, b"fresh") {
         return Verb::Fresh;
     }
+    if is_name(word, b"write") {
+        return Verb::Write;
+    }
+    if is_name(word, b"read") {
+        return Verb::Read;
+    }
     Verb::Other
 }
 
@@ -81,23 +95,37 @@ fn digit(b: u8) -> u64
     }
 }
 
-// One to ten digits, at most 4,294,967,295.
-pub(crate) fn number_of(word: &[u8]) -> Number {
-    if word.len() == 0 || 10 < word.len() {
-        return Number::Not;
+// One to twenty digits, at most 18,446,744,073,709,551,615.
+pub(crate) fn wide_of(word: &[u8]) -> Wide {
+    if word.len() == 0 || 20 < word.len() {
+        return Wide::Not;
     }
     let mut n: u64 = 0;
     let mut i: usize = 0;
     while i < word.len() {
         let d = digit(word[i]);
-        n = 10 * n + d;
         if 9 < d {
-            return Number::Not;
+            return Wide::Not;
         }
-        if 4294967295 < n {
-            return Number::Not;
+        if (u64::MAX - d) / 10 < n {
+            return Wide::Not;
         }
+        n = 10 * n + d;
         i += 1;
+    }
+    Wide::Is(n)
+}
+
+// One to ten digits, at most 4,294,967,295.
+pub(crate) fn number_of(word: &[u8]) -> Number {
+    if 10 < word.len() {
+        return Number::Not;
+    }
+    let Wide::Is(n) = wide_of(word) else {
+        return Number::Not;
+    };
+    if 4294967295 < n {
+        return Number::Not;
     }
     Number::Is(n as u32)
 }

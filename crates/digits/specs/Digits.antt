@@ -22,9 +22,8 @@ abbrev pub digit : ℕ → ℕ
 digit n = n + code "0"
 
 -- The digits of the quotient by ten, then that of the remainder. The first argument bounds how deep the quotients go;
--- the
--- second says whether the number is below ten, and is matched on, since a call under a choice is computed though not
--- chosen.
+-- the second says whether the number is below ten, and is matched on, since a call under a choice is computed though
+-- not chosen.
 abbrev pub digitsWithin : ℕ → Bool → ℕ → List ℕ
 digitsWithin zero small n = []
 digitsWithin (suc depth) true n = digit n ∷ []

@@ -1,6 +1,5 @@
 // Decimal text of a count, both ways: document 01, "Count lines", Written, decimal without leading zeros, and Read,
-// one to
-// ten digits. Written by recursion on the quotient, which falls.
+// one to ten digits. Written by recursion on the quotient, which falls.
 ghost use mathlib.Core.Path.{_≡_};
 ghost use Prim.Native.Nat.{_≤_};
 ghost use lib.ListN.{length};

@@ -31,7 +31,7 @@ use Rattle.layouts.specs.Columns.{columns, noColumn, width}
 use Rattle.layouts.specs.Entries.{Entry, Missing, Number, Text, named, entryOf, entriesOf, meaningOf, noField}
 use Rattle.layouts.specs.Entries.{isMissing, Within, kept, present}
 use Rattle.layouts.specs.Layouts.{entryText, isName, countedName, counted, mark, marked, isLast, laid}
-use Rattle.layouts.specs.Layouts.{nthBytes, restOf, Stops, Sized, headOf, laidOut}
+use Rattle.layouts.specs.Layouts.{nthBytes, restOf, Sized, headOf, laidOut}
 
 -- ---- the low bytes of a number
 

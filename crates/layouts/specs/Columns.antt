@@ -1,6 +1,5 @@
--- The tables of count lines. Document 01, "Count lines", its first paragraph, and "Record frame and kinds", the fields
--- of PCR,
--- HBR and SBR.
+-- The tables of count lines. Document 01, "Count lines", its first paragraph, and "Record frame and kinds", the
+-- fields of PCR, HBR and SBR.
 --
 --   separator, lineFeed, carriageReturn   the bytes between fields and at the end of a line
 --   tagText     how a line of each tag begins

@@ -1,7 +1,5 @@
 // Fields laid out one after the other, as the text of a line or as a record: document 01, "Count lines", a stated
-// offset of
-// the lent output. Each writer gets the part behind what the last one wrote.
-use super::Field;
+// offset of the lent output. Each writer gets the part behind what the last one wrote.
 use super::Form;
 use super::Layout;
 use super::Line;
@@ -23,7 +21,7 @@ ghost use Prim.Native.Nat.{_+_, _-_, _*_, _≤_, _<_};
 ghost use mathlib.Core.List.{[], _∷_};
 ghost use lib.ListN.{length, getD};
 ghost use Rattle.numbers.specs.Numbers.{written};
-ghost use Rattle.placing.specs.Placed.{Put, Room, part, outcome, placedAt};
+ghost use Rattle.placing.specs.Placed.{Put, Room, outcome, placedAt};
 ghost use Rattle.layouts.specs.Columns.{tagText, columns, width};
 ghost use Rattle.layouts.specs.Entries.{named, entryOf, meaningOf, noField, isMissing, Within, AllWithin, Nth};
 ghost use Rattle.layouts.specs.Layouts.{entryText, missingValue, isName, countedName, counted, stored, mark};

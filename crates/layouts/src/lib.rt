@@ -25,8 +25,7 @@ pub enum Form {
 }
 
 // A field's type, the most that its text may hold, and whether it is required: for a number the greatest value, for
-// P/F and
-// a name the bytes that are kept.
+// P/F and a name the bytes that are kept.
 pub struct Column(pub Form, pub u32, pub bool);
 
 // What a field says: P/F and a name are text, told by its place and its length in a source.

@@ -1,19 +1,19 @@
 -- What a count record means fits the columns of its line.
 -- Assumes nothing.
-use mathlib.Core.Path.{_≡_, refl, ap, sym, subst, _∙_}
-use mathlib.Core.Bool.{Bool, true, false, cond, not, _&&_, _||_}
+use mathlib.Core.Path.{_≡_, refl, subst}
+use mathlib.Core.Bool.{Bool, true, false, _||_}
 use mathlib.Core.List.{List, [], _∷_}
-use Prim.Native.Nat.{ℕ, zero, suc, _+_, _-_, _≤_, _<_}
+use Prim.Native.Nat.{ℕ, zero, suc, _+_, _≤_, _<_}
 use Prim.Native.Char.{code}
 use native.Mathlib.Omega.{arith}
-use borrow.Author.Tests.{le-leb, leb-true, leb-false, eqb-true, eqb-false}
+use borrow.Author.Tests.{le-leb, leb-true, leb-false, eqb-false}
 use lib.Dec.{eqb, leb}
 use lib.ListN.{length, getD, take, drop}
 use lib.Seq.{getD-drop, drop-cons}
 use Rattle.words.specs.Each.{each}
+use Rattle.words.proofs.Never.{false-true}
 use Rattle.words.proofs.Both.{both-left, both-right}
 use Rattle.words.proofs.Each.{each-at}
-use Rattle.answers.specs.declared.Answer.{Answer}
 use Rattle.numbers.specs.declared.Order.{Order}
 use Rattle.numbers.specs.Numbers.{number, front}
 use Rattle.numbers.specs.Laws.{Bytes}
@@ -27,28 +27,21 @@ use Rattle.fields.proofs.Laws.{begun-whole}
 use Rattle.bodies.specs.Values.{countAt, passFailAt, nameAt, passFailFits}
 use Rattle.bodies.specs.Bodies.{pcrOf, binOf, binValuesFit, readPcr, readBin, readBody}
 use Rattle.placing.proofs.Laws.{length-part}
-use Rattle.layouts.specs.declared.Column.{Column}
-use Rattle.layouts.specs.declared.Form.the-variants.{U1, U2, U4, C1, Cn}
-use Rattle.layouts.specs.declared.Said.{Said}
+use Rattle.layouts.specs.declared.Form.the-variants.{U1, U4, C1, Cn}
 use Rattle.layouts.specs.declared.Judged.{Judged}
 use Rattle.layouts.specs.declared.Fault.{Fault}
 use Rattle.layouts.specs.declared.Fault.the-variants.{None, Found}
 use Rattle.layouts.specs.Columns.{binColumns}
 use Rattle.layouts.specs.Names.{allowed}
 use Rattle.layouts.specs.Entries.{Entry, Missing, Number, Text, Meaning, entryOf, meaningOf}
-use Rattle.layouts.specs.Judging.{Judging, Says, Faulty, byFault}
+use Rattle.layouts.specs.Judging.{Says, byFault}
+use Rattle.layouts.proofs.Faults.{found-none}
 use Rattle.records.specs.Records.{siteSaid, countSaid, letterSaid, nameSaid, pcrLine, binLine, ofReading, isCount}
 use Rattle.records.specs.Records.{judged, meaning}
 use Rattle.records.proofs.Judges.{judged-body, none-frame, none-count}
 use Rattle.texts.specs.Laws.{entryFits, entriesFit, Fitting}
 use Rattle.texts.specs.Texts.{sitesFit}
 use Rattle.lines.specs.Writing.{entryAllowed}
-
-found-none : {A : Type 0} (answer : Answer) → Found answer ≡ None → A
-found-none answer e = let never : _≡_ {A = ℕ} 0 1 = cc in absurd (omega arith)
-
-false-true : {A : Type 0} → _≡_ {A = Bool} false true → A
-false-true e = let never : _≡_ {A = ℕ} 0 1 = cc in absurd (omega arith)
 
 -- ---- numbers of a body are in range
 

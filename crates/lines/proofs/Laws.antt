@@ -6,9 +6,12 @@ use Rattle.placing.specs.Placed.{Outcome}
 use Rattle.lines.specs.Writing.{lineWritten}
 use Rattle.lines.specs.Reading.{lineRead}
 use Rattle.texts.proofs.Canonical.{canonical-read}
-use Rattle.lines.specs.Laws.{WrittenOnce, ReadOnce, WrittenRead, WrittenMost}
+use Rattle.lines.specs.Laws.{WrittenOnce, ReadOnce, WrittenRead, WrittenMost, RecordRead}
+use Rattle.lines.specs.Laws.{ThereAndBack, BackAgain}
 use Rattle.lines.proofs.Fitting.{record-fits}
 use Rattle.lines.proofs.Most.{text-most}
+use Rattle.lines.proofs.Made as made
+use Rattle.lines.proofs.Rounds as rounds
 
 pub written-once : WrittenOnce
 written-once cpu s old at = equation Outcome (lineWritten cpu s old at)
@@ -21,3 +24,12 @@ written-read order s m bytes e ok = canonical-read m (record-fits order s m byte
 
 pub written-most : WrittenMost
 written-most order s m bytes e ok = text-most m (record-fits order s m bytes e ok)
+
+pub record-read : RecordRead
+record-read = made.record-read
+
+pub there-and-back : ThereAndBack
+there-and-back = rounds.there-and-back
+
+pub back-again : BackAgain
+back-again = rounds.back-again

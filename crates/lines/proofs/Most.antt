@@ -3,29 +3,27 @@
 use mathlib.Core.Path.{_≡_, refl, ap, _∙_}
 use mathlib.Core.Bool.{Bool, true, false, cond, not, _&&_}
 use mathlib.Core.List.{List, [], _∷_, _++_}
-use Prim.Native.Nat.{ℕ, zero, suc, _+_, _/_, _≤_, _<_}
+use Prim.Native.Nat.{ℕ, _+_, _/_, _≤_}
 use native.Mathlib.Omega.{arith}
 use borrow.Author.Tests.{ltb-true, ltb-false, leb-true, not-true}
 use lib.Dec.{ltb, leb}
 use lib.ListN.{length, length-append}
 use Rattle.words.specs.Each.{each}
+use Rattle.words.proofs.Never.{false-true}
 use Rattle.words.proofs.Both.{both-left, both-right}
 use Rattle.digits.specs.Digits.{digits}
 use Rattle.digits.proofs.Laws.{by-quotient, length-one, length-more, digits-some}
 use Rattle.layouts.specs.declared.Tag.{Tag}
 use Rattle.layouts.specs.declared.Tag.the-variants.{Pcr, Hbr, Sbr}
 use Rattle.layouts.specs.declared.Column.{Column}
+use Rattle.layouts.specs.declared.Layout.{Layout}
 use Rattle.layouts.specs.declared.Layout.the-variants as layout
 use Rattle.layouts.specs.Columns.{tagText, columns}
 use Rattle.layouts.specs.Names.{allowed}
 use Rattle.layouts.specs.Entries.{Entry, Missing, Number, Text, Meaning, kept, present}
 use Rattle.layouts.specs.Layouts.{isName, entryText, mark, isLast, laid, textOf}
-use Rattle.layouts.proofs.Laid.{marked-size}
 use Rattle.texts.specs.Pieces.{isNumber, letterFits}
 use Rattle.texts.specs.Laws.{entryFits, entriesFit, Fitting}
-
-false-true : {A : Type 0} → _≡_ {A = Bool} false true → A
-false-true e = let never : _≡_ {A = ℕ} 0 1 = cc in absurd (omega arith)
 
 -- a greater number has no fewer digits
 digits-rising : (m n : ℕ) → n ≤ m → length (digits n) ≤ length (digits m)
@@ -65,14 +63,14 @@ laid-cons c cs e es =
     length-append (entryText e ++ mark (isLast es) ∷ []) (laid layout.Text cs es)
     ∙ omega (arith, length-append (entryText e) (mark (isLast es) ∷ []))
 
-laid-none : (cs : List Column) → laid layout.Text cs [] ≡ []
+pub laid-none : (l : Layout) (cs : List Column) → laid l cs [] ≡ []
 unfolding laid
-laid-none [] = refl
-laid-none (c ∷ cs) = refl
+laid-none l [] = refl
+laid-none l (c ∷ cs) = refl
 
 laid-kept : (c : Column) (cs : List Column) (e : Entry) (es : List Entry)
     → length (laid layout.Text (c ∷ cs) (kept e es)) ≤ length (entryText e) + 1 + length (laid layout.Text cs es)
-laid-kept c cs Missing [] = omega (arith, ap length (laid-none (c ∷ cs)))
+laid-kept c cs Missing [] = omega (arith, ap length (laid-none layout.Text (c ∷ cs)))
 laid-kept c cs Missing (x ∷ es) = omega (arith, laid-cons c cs Missing (x ∷ es))
 laid-kept c cs (Number n) es = omega (arith, laid-cons c cs (Number n) es)
 laid-kept c cs (Text bytes) es = omega (arith, laid-cons c cs (Text bytes) es)
@@ -84,7 +82,7 @@ total (c ∷ cs) = most c + 1 + total cs
 
 laid-most : (cs : List Column) (es : List Entry) → entriesFit cs es ≡ true
     → length (laid layout.Text cs (present es)) ≤ total cs
-laid-most [] [] e = omega (arith, ap length (laid-none []))
+laid-most [] [] e = omega (arith, ap length (laid-none layout.Text []))
 laid-most [] (x ∷ es) e = false-true e
 laid-most (c ∷ cs) [] e = false-true e
 laid-most (c ∷ cs) (x ∷ es) e =

@@ -1,4 +1,11 @@
 -- What is shown of count lines: statements only. Each is proved in proofs/Laws.antt, under its name in small letters.
+--
+--   WrittenOnce, ReadOnce    the two calls leave nothing open
+--   WrittenRead              the line of a record means what the record means
+--   RecordRead               the record of a line means what the line means
+--   ThereAndBack             a record, written and read back by the calls, has the same meaning
+--   BackAgain                a line, read and written by the calls, is the canonical line of the same meaning
+--   WrittenMost              the longest line
 -- Assumes nothing.
 use mathlib.Core.Path.{_≡_}
 use mathlib.Core.Bool.{true}
@@ -8,13 +15,17 @@ use lib.ListN.{length}
 use Rattle.words.specs.Once.{Once}
 use Rattle.words.specs.Each.{each}
 use Rattle.numbers.specs.declared.Order.{Order}
+use Rattle.numbers.specs.declared.Ordering.the-variants.{Known}
+use Rattle.numbers.specs.Orders.{orderOf}
 use Rattle.numbers.specs.Laws.{Bytes}
 use Rattle.layouts.specs.Entries.{Meaning}
-use Rattle.layouts.specs.Layouts.{textOf}
+use Rattle.layouts.specs.Layouts.{textOf, recordOf}
 use Rattle.layouts.specs.Judging.{Says}
 use Rattle.records.specs.Records.{meaning}
 use Rattle.texts.specs.Texts.{lineMeaning}
-use Rattle.placing.specs.Placed.{Outcome}
+use Rattle.texts.specs.Laws.{Fitting}
+use Rattle.placing.specs.declared.Written.the-variants as written
+use Rattle.placing.specs.Placed.{part, Outcome, outcome, placedAt}
 use Rattle.lines.specs.Writing.{entryAllowed, lineWritten}
 use Rattle.lines.specs.Reading.{lineRead}
 
@@ -37,6 +48,38 @@ ReadOnce = (cpu : ℕ) (line old : List ℕ) (at : ℕ) → Once (ReadPromise cp
 abbrev pub WrittenRead : Type 0
 WrittenRead = (order : Order) (s : List ℕ) (m : Meaning) → Bytes s → meaning order s ≡ Says m
     → each entryAllowed (m .entries) ≡ true → lineMeaning (textOf m) ≡ meaning order s
+
+-- any meaning that a line can have: the record made from it has that meaning
+abbrev pub RecordRead : Type 0
+RecordRead = (order : Order) (m : Meaning) → Fitting m → meaning order (recordOf order m) ≡ Says m
+
+-- ---- the two calls, one after the other, each at any place of any output
+
+-- the text of a record is read into some record, which means what the first one means
+pub record ReadBack (cpu : ℕ) (order : Order) (s text : List ℕ) : Type 0 where
+  pub made : List ℕ
+  pub reads : (old : List ℕ) (at : ℕ) → lineRead cpu text old at ≡ placedAt made old at
+  pub same : meaning order made ≡ meaning order s
+
+-- Any record, written and read back, has the same meaning but for the site under head 255: the n bytes that a writing
+-- of it left at their offset are such a text. The site under head 255 is no part of a meaning
+abbrev pub ThereAndBack : Type 0
+ThereAndBack = (cpu : ℕ) (order : Order) → orderOf cpu ≡ Known order
+    → (s old : List ℕ) (at n : ℕ) (new : List ℕ) → Bytes s
+    → lineWritten cpu s old at ≡ outcome (written.Bytes n) new → ReadBack cpu order s (part at n new)
+
+-- the record of a line is written as the canonical line of a meaning: that of the line, and of its canonical line
+pub record WrittenBack (cpu : ℕ) (line s : List ℕ) : Type 0 where
+  pub said : Meaning
+  pub means : lineMeaning line ≡ Says said
+  pub writes : (old : List ℕ) (at : ℕ) → lineWritten cpu s old at ≡ placedAt (textOf said) old at
+  pub same : lineMeaning (textOf said) ≡ lineMeaning line
+
+-- Any line that is read, then written, is the canonical line of the same meaning: the n bytes that a reading of it left
+-- at their offset are such a record
+abbrev pub BackAgain : Type 0
+BackAgain = (cpu : ℕ) (line old : List ℕ) (at n : ℕ) (new : List ℕ)
+    → lineRead cpu line old at ≡ outcome (written.Bytes n) new → WrittenBack cpu line (part at n new)
 
 -- the longest is 287 bytes, its LF with it
 abbrev pub WrittenMost : Type 0

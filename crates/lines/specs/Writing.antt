@@ -1,6 +1,5 @@
 -- Writing: from a record to its line. Document 01, "Count lines", Written, and orders of checks, Writing checks 4, 3,
--- 6, 7, 19,
--- 17.
+-- 6, 7, 19, 17.
 --
 --   entryAllowed  whether an entry can be written as text
 --   textFor       the text that a record makes, or what it is refused with
@@ -12,12 +11,11 @@ use Prim.Native.Nat.{ℕ}
 use Rattle.words.specs.Choice.{_unless_then_}
 use Rattle.words.specs.Each.{each}
 use Rattle.answers.specs.declared.Answer.the-variants.{UnknownOrder, NameNotText}
-use Rattle.numbers.specs.declared.Order.{Order}
 use Rattle.numbers.specs.declared.Ordering.{Ordering}
 use Rattle.numbers.specs.declared.Ordering.the-variants.{Known, Unknown}
 use Rattle.numbers.specs.Orders.{orderOf}
 use Rattle.placing.specs.Placed.{Making, Makes, Refuses, Outcome, placed}
-use Rattle.layouts.specs.Entries.{Entry, Missing, Number, Text, Meaning}
+use Rattle.layouts.specs.Entries.{Entry, Missing, Number, Text}
 use Rattle.layouts.specs.Layouts.{textOf}
 use Rattle.layouts.specs.Names.{allowed}
 use Rattle.layouts.specs.Judging.{Judging, Says, Faulty}

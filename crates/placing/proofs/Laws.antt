@@ -1,18 +1,21 @@
 -- Laws of bytes placed: one writer after another, and the outcome at an offset.
 -- Assumes nothing.
 use mathlib.Core.Path.{_≡_, refl, ap, sym, _∙_}
+use mathlib.Core.Bool.{Bool, true, false}
 use mathlib.Core.List.{List, [], _∷_, _++_, append-assoc, append-nil}
 use Prim.Native.Nat.{ℕ, suc, _+_, _-_, _≤_, _<_}
 use native.Mathlib.Numerals.{add-one}
 use native.Mathlib.Omega.{arith}
-use borrow.Author.Tests.{le-leb, lt-leb}
+use borrow.Author.Tests.{le-leb, lt-leb, leb-true}
+use lib.Dec.{leb}
 use lib.ListN.{length, getD, take, drop, set, length-append, length-take, length-drop, drop-of-length-le}
 use lib.Seq.{take-all, take-suc, drop-cons, drop-drop, drop-append-seam, take-append-seam, set-at, getD-drop}
-use lib.Seq.{length-take-le}
+use lib.Seq.{length-take-le, take-at, drop-at}
+use Rattle.answers.specs.declared.Answer.{Answer}
 use Rattle.answers.specs.declared.Answer.the-variants.{OutputTooShort}
 use Rattle.numbers.specs.Numbers.{over}
-use Rattle.placing.specs.declared.Written.the-variants.{Bytes}
-use Rattle.placing.specs.Placed.{part, Room, Put, outcome, refused, placedAt}
+use Rattle.placing.specs.declared.Written.the-variants.{Bytes, Refused}
+use Rattle.placing.specs.Placed.{part, Room, Put, Outcome, outcome, refused, placedAt}
 
 -- ---- one byte more
 
@@ -112,3 +115,29 @@ module _ (bytes old : List ℕ) (at : ℕ) where
           append-nil,
           drop-drop (length bytes) at old,
         )
+
+-- ---- bytes that were placed stand at their offset
+
+pub refused-bytes : {A : Type 0} (answer : Answer) (old : List ℕ) (n : ℕ) (new : List ℕ)
+    → refused answer old ≡ outcome (Bytes n) new → A
+refused-bytes answer old n new e =
+    let apart : Refused answer ≡ Bytes n = ap (λ (o : Outcome). o .answer) e in
+    let never : _≡_ {A = ℕ} 0 1 = cc in absurd (omega arith)
+
+pub placed-part : (bytes old : List ℕ) (at n : ℕ) (new : List ℕ) → placedAt bytes old at ≡ outcome (Bytes n) new
+    → part at n new ≡ bytes
+unfolding placedAt
+placed-part bytes old at n new e = go (leb (at + length bytes) (length old)) refl
+  where
+    go : (t : Bool) → leb (at + length bytes) (length old) ≡ t → part at n new ≡ bytes
+    go false f = refused-bytes OutputTooShort old n new (rw f at e)
+    go true f =
+        let room = leb-true (at + length bytes) (length old) f in
+        let rest = drop (at + length bytes) old in
+        let done : outcome (Bytes (length bytes)) (take at old ++ (bytes ++ rest)) ≡ outcome (Bytes n) new =
+        rw f at e in
+        let answers : Bytes (length bytes) ≡ Bytes n = ap (λ (o : Outcome). o .answer) done in
+        let size : length bytes ≡ n = cc in
+        let all : take at old ++ (bytes ++ rest) ≡ new = ap (λ (o : Outcome). o .output) done in
+        let front = length-take-le at old (omega arith) in
+        rw (← all, ← size, drop-at (take at old) (bytes ++ rest) at front) (take-at bytes rest (length bytes) refl)

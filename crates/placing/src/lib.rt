@@ -1,8 +1,7 @@
 // Bytes placed in a lent output: document 01, "Count lines", a stated offset, and "Refusal numbers", 17. Each writer
-// puts its
-// bytes at the start of the part that it is lent and returns how many; the next one gets the part behind them.
+// puts its bytes at the start of the part that it is lent and returns how many; the next one gets the part behind
+// them.
 use answers::Answer;
-ghost use mathlib.Core.Path.{_≡_};
 ghost use Prim.Native.Nat.{_+_, _≤_};
 ghost use mathlib.Core.List.{[], _∷_};
 ghost use lib.ListN.{length};

@@ -1,16 +1,16 @@
 -- Laws of a record taken apart: one an answer, in the order of the checks; what a record without fault has.
 -- Assumes nothing.
-use mathlib.Core.Path.{_≡_, refl, ap, sym, _∙_}
+use mathlib.Core.Path.{_≡_, refl}
 use mathlib.Core.Bool.{Bool, true, false}
 use mathlib.Core.List.{List, [], _∷_}
-use Prim.Native.Nat.{ℕ, zero, suc, _+_, _-_, _≤_, _<_}
+use Prim.Native.Nat.{ℕ, zero, suc, _-_, _<_}
 use Prim.Native.Char.{code}
 use native.Mathlib.Omega.{arith}
 use borrow.Author.Tests.{leb-true}
 use lib.Dec.{eqb, leb}
 use lib.ListN.{length, getD, take, drop, length-drop}
 use lib.Seq.{take-all}
-use Rattle.answers.specs.declared.Answer.{Answer}
+use Rattle.words.proofs.Never.{false-true}
 use Rattle.answers.specs.declared.Answer.the-variants.{NotOneRecord, UnknownKind}
 use Rattle.numbers.specs.declared.Order.{Order}
 use Rattle.kinds.specs.declared.Kind.{Kind}
@@ -27,9 +27,10 @@ use Rattle.bodies.specs.Bodies.{pcrOf, binOf, binValuesFit, readPcr, readBin, r
 use Rattle.layouts.specs.declared.Said.{Said}
 use Rattle.layouts.specs.declared.Said.the-variants as said
 use Rattle.layouts.specs.declared.Field.{Field}
-use Rattle.layouts.specs.declared.Fault.the-variants.{None, Found}
+use Rattle.layouts.specs.declared.Fault.the-variants.{None}
 use Rattle.layouts.specs.Entries.{noField, Within, AllWithin}
 use Rattle.layouts.specs.Judging.{refusing}
+use Rattle.layouts.proofs.Faults.{found-none}
 use Rattle.records.specs.Records.{siteSaid, countSaid, letterSaid, nameSaid, field, pcrLine, binLine}
 use Rattle.records.specs.Records.{ofReading, isCount, judged}
 
@@ -53,12 +54,6 @@ module _ (order : Order) (s : List ℕ) where
     judged-body e = rw (is, e)
 
 -- ---- what a record without fault has
-
-found-none : (answer : Answer) → Found answer ≡ None → ⊥
-found-none answer e = let never : _≡_ {A = ℕ} 0 1 = cc in omega arith
-
-false-true : _≡_ {A = Bool} false true → ⊥
-false-true e = let never : _≡_ {A = ℕ} 0 1 = cc in omega arith
 
 module _ (source : List ℕ) where
   abbrev Withins : List Field → Type 0
@@ -152,8 +147,8 @@ module _ (source : List ℕ) where
         go : (t : Bool) → fitsBody bin source ≡ t → (u : Bool) → binValuesFit order source ≡ u
             → AllWithin source (ofReading (readBin soft order source) .line)
         go true e true f = rw (e, f) (bin-within e)
-        go true e false f = absurd (found-none _ (rw (e, f) at none))
-        go false e u f = absurd (found-none _ (rw e at none))
+        go true e false f = found-none _ (rw (e, f) at none)
+        go false e u f = found-none _ (rw e at none)
 
   read-pcr-within : (order : Order) → ofReading (readPcr order source) .fault ≡ None
       → AllWithin source (ofReading (readPcr order source) .line)
@@ -161,7 +156,7 @@ module _ (source : List ℕ) where
     where
       go : (t : Bool) → fitsBody pcr source ≡ t → AllWithin source (ofReading (readPcr order source) .line)
       go true e = rw e (pcr-within (pcrOf order source))
-      go false e = absurd (found-none _ (rw e at none))
+      go false e = found-none _ (rw e at none)
 
   kind-within : (order : Order) (k : Kind) → getD source 9 0 < 256 → isCount k ≡ true
       → ofReading (readBody order k source) .fault ≡ None → AllWithin source (ofReading (readBody order k source) .line)
@@ -169,17 +164,17 @@ module _ (source : List ℕ) where
   kind-within order kind.Pcr bytes e none = read-pcr-within order none
   kind-within order kind.Hbr bytes e none = read-bin-within false order bytes none
   kind-within order kind.Sbr bytes e none = read-bin-within true order bytes none
-  kind-within order kind.Far bytes e none = absurd (false-true e)
-  kind-within order kind.Atr bytes e none = absurd (false-true e)
-  kind-within order kind.Mir bytes e none = absurd (false-true e)
-  kind-within order kind.Mrr bytes e none = absurd (false-true e)
-  kind-within order kind.Rdr bytes e none = absurd (false-true e)
-  kind-within order kind.Sdr bytes e none = absurd (false-true e)
-  kind-within order kind.Pir bytes e none = absurd (false-true e)
-  kind-within order kind.Prr bytes e none = absurd (false-true e)
-  kind-within order (kind.Remaining k) bytes e none = absurd (false-true e)
-  kind-within order kind.Custom bytes e none = absurd (false-true e)
-  kind-within order kind.Unknown bytes e none = absurd (false-true e)
+  kind-within order kind.Far bytes e none = false-true e
+  kind-within order kind.Atr bytes e none = false-true e
+  kind-within order kind.Mir bytes e none = false-true e
+  kind-within order kind.Mrr bytes e none = false-true e
+  kind-within order kind.Rdr bytes e none = false-true e
+  kind-within order kind.Sdr bytes e none = false-true e
+  kind-within order kind.Pir bytes e none = false-true e
+  kind-within order kind.Prr bytes e none = false-true e
+  kind-within order (kind.Remaining k) bytes e none = false-true e
+  kind-within order kind.Custom bytes e none = false-true e
+  kind-within order kind.Unknown bytes e none = false-true e
 
 module _ (order : Order) (s : List ℕ) (none : judged order s .fault ≡ None) where
   pub none-frame : isRecord order s ≡ true
@@ -187,14 +182,14 @@ module _ (order : Order) (s : List ℕ) (none : judged order s .fault ≡ None) 
     where
       go : (t : Bool) → isRecord order s ≡ t → t ≡ true
       go true e = refl
-      go false e = absurd (found-none _ (rw (← judged-frame order s e) at none))
+      go false e = found-none _ (rw (← judged-frame order s e) at none)
 
   pub none-count : isCount (kindOf (recTyp s) (recSub s)) ≡ true
   none-count = go (isCount (kindOf (recTyp s) (recSub s))) refl
     where
       go : (t : Bool) → isCount (kindOf (recTyp s) (recSub s)) ≡ t → t ≡ true
       go true e = refl
-      go false e = absurd (found-none _ (rw (← judged-kind order s none-frame e) at none))
+      go false e = found-none _ (rw (← judged-kind order s none-frame e) at none)
 
   pub none-within : getD (body s) 9 0 < 256 → AllWithin (body s) (judged order s .line)
   none-within bytes =

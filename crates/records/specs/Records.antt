@@ -1,6 +1,5 @@
 -- What a count record means. Document 01, "Record frame and kinds", PCR, HBR and SBR, and "Count lines", head 255;
--- orders of
--- checks, 3, 6, 7.
+-- orders of checks, 3, 6, 7.
 --
 --   siteSaid, countSaid, letterSaid, nameSaid   what a field of a record says
 --   pcrLine, binLine   a record's fields in the order of the columns

@@ -6,11 +6,12 @@ use mathlib.Core.List.{List, [], _∷_, _++_, map, append-assoc, append-nil}
 use Prim.Native.Nat.{ℕ, zero, suc, _+_, _-_, _≤_, _<_, _^_}
 use Prim.Native.Char.{code}
 use native.Mathlib.Omega.{arith}
-use borrow.Author.Tests.{leb-true, le-leb, eqb-true, eq-eqb, ne-eqb, not-true}
+use borrow.Author.Tests.{leb-true, le-leb, eqb-true, ne-eqb, not-true}
 use lib.Dec.{eqb, leb}
 use lib.ListN.{length, getD, take, drop, length-append, length-take, List·getD-append}
 use lib.Seq.{take-all, take-at, getD-at}
 use Rattle.words.specs.Each.{each}
+use Rattle.words.proofs.Never.{false-true}
 use Rattle.words.proofs.Both.{both-left, both-right}
 use Rattle.words.proofs.Each.{each-append, each-take, each-at}
 use Rattle.digits.specs.declared.Numeral.{Numeral}
@@ -25,12 +26,12 @@ use Rattle.layouts.specs.Columns.{separator, lineFeed, carriageReturn, tagText,
 use Rattle.layouts.specs.Names.{allowed}
 use Rattle.layouts.specs.Entries.{Entry, Missing, Number, Text, Meaning, kept, present}
 use Rattle.layouts.specs.Layouts.{isName, entryText, laid, textOf}
-use Rattle.layouts.specs.Judging.{Judging, Says, Faulty}
+use Rattle.layouts.specs.Judging.{Says}
 use Rattle.texts.specs.declared.Tagging.{Tagging}
 use Rattle.texts.specs.declared.Tagging.the-variants.{Known, Other}
-use Rattle.texts.specs.Pieces.{onto, split, first, rest, isNumber, numberFits, numberIn, letterFits, valueFits}
+use Rattle.texts.specs.Pieces.{onto, split, first, rest, isNumber, numberFits, numberIn, letterFits}
 use Rattle.texts.specs.Pieces.{valueIn, pieceFits, entryIn, fieldsFit, entriesIn}
-use Rattle.texts.specs.Texts.{isBreak, ending, content, unbroken, tagOf, sitesFit, notALine, fieldsMean}
+use Rattle.texts.specs.Texts.{isBreak, content, unbroken, tagOf, sitesFit, notALine, fieldsMean}
 use Rattle.texts.specs.Texts.{taggedMeans, contentMeans, lineMeaning}
 use Rattle.texts.specs.Laws.{entryFits, entriesFit, Fitting, CanonicalRead, ReadFits, ReadAgain}
 use Rattle.texts.proofs.Whole.{ending-feed, mean-said, content-tagged}
@@ -40,9 +41,6 @@ use Rattle.texts.proofs.Whole.{ending-feed, mean-said, content-tagged}
 -- what may stand in a field
 abbrev plain : ℕ → Bool
 plain b = not (eqb b separator) && not (isBreak b)
-
-true-false : {A : Type 0} → _≡_ {A = Bool} false true → A
-true-false e = let never : _≡_ {A = ℕ} 0 1 = cc in absurd (omega arith)
 
 plain-other : (b : ℕ) → (b ≡ 124 → ⊥) → (b ≡ 10 → ⊥) → (b ≡ 13 → ⊥) → plain b ≡ true
 plain-other b s l c = rw (ne-eqb b 124 s, ne-eqb b 10 l, ne-eqb b 13 c)
@@ -72,7 +70,7 @@ plain-letter b e = go (eqb b (code "P")) refl (eqb b (code "F")) refl
     go : (t : Bool) → eqb b (code "P") ≡ t → (u : Bool) → eqb b (code "F") ≡ u → plain b ≡ true
     go true f u g = rw (eqb-true b (code "P") f)
     go false f true g = rw (eqb-true b (code "F") g)
-    go false f false g = true-false (rw (f, g) at e)
+    go false f false g = false-true (rw (f, g) at e)
 
 -- ---- one entry: its text is plain, and is read back as the entry
 
@@ -145,7 +143,7 @@ module _ (c : Column) (ok : sane c ≡ true) where
       let g = both-right (isNumber (c .0)) (leb n (c .1)) e in
       let r = number-reads c most n (digits n) refl (digits-some n) f g in
       (each-weak isDigit plain plain-digit (digits n) (digits-digits n), r .0, r .1)
-  entry-reads (Text []) e = true-false e
+  entry-reads (Text []) e = false-true e
   entry-reads (Text (b ∷ bs)) e =
       let rule = cond (isName (c .0)) (each allowed (b ∷ bs)) (letterFits (b ∷ bs)) in
       let size = leb (length (b ∷ bs)) (c .1) in
@@ -174,8 +172,8 @@ pieces-read : (cs : List Column) (es : List Entry) → each sane cs ≡ true →
     → (fieldsFit cs (map entryText (present es)) ≡ true) × (entriesIn cs (map entryText (present es)) ≡ es)
 unfolding fieldsFit entriesIn
 pieces-read [] [] ok e = (refl, refl)
-pieces-read [] (x ∷ es) ok e = true-false e
-pieces-read (c ∷ cs) [] ok e = true-false e
+pieces-read [] (x ∷ es) ok e = false-true e
+pieces-read (c ∷ cs) [] ok e = false-true e
 pieces-read (c ∷ cs) (x ∷ es) ok e =
     let r = entry-reads c (both-left (sane c) (each sane cs) ok) x (both-left (entryFits c x) (entriesFit cs es) e) in
     let ih = pieces-read cs es (both-right (sane c) (each sane cs) ok)
@@ -195,8 +193,8 @@ plain-kept (Text bytes) es p ps = rw (p, ps)
 pieces-plain : (cs : List Column) (es : List Entry) → each sane cs ≡ true → entriesFit cs es ≡ true
     → each (each plain) (map entryText (present es)) ≡ true
 pieces-plain [] [] ok e = refl
-pieces-plain [] (x ∷ es) ok e = true-false e
-pieces-plain (c ∷ cs) [] ok e = true-false e
+pieces-plain [] (x ∷ es) ok e = false-true e
+pieces-plain (c ∷ cs) [] ok e = false-true e
 pieces-plain (c ∷ cs) (x ∷ es) ok e =
     plain-kept x (present es)
     (entry-reads c (both-left (sane c) (each sane cs) ok) x (both-left (entryFits c x) (entriesFit cs es) e) .0)
@@ -282,7 +280,7 @@ content-feed s least whole =
     let before : getD (s ++ lineFeed ∷ []) (length (s ++ lineFeed ∷ []) - 2) 0 ≡ getD s (n - 1) 0 =
     rw (size, place) (List·getD-append s (lineFeed ∷ []) 0 (n - 1) inside) in
     let kept-byte : getD s (n - 1) 0 ≡ carriageReturn → ⊥ =
-    λ (i : getD s (n - 1) 0 ≡ carriageReturn). true-false {A = ⊥} (rw i at other) in
+    λ (i : getD s (n - 1) 0 ≡ carriageReturn). false-true {A = ⊥} (rw i at other) in
     let no-return : getD (s ++ lineFeed ∷ []) (length (s ++ lineFeed ∷ []) - 2) 0 ≡ carriageReturn → ⊥ =
     λ (i : getD (s ++ lineFeed ∷ []) (length (s ++ lineFeed ∷ []) - 2) 0 ≡ carriageReturn). kept-byte
     (sym before ∙ i) in
@@ -302,7 +300,7 @@ kept-most (Text bytes) es = omega arith
 
 present-most : (cs : List Column) (es : List Entry) → entriesFit cs es ≡ true → length (present es) ≤ length cs
 present-most [] [] e = omega arith
-present-most [] (x ∷ es) e = true-false e
+present-most [] (x ∷ es) e = false-true e
 present-most (c ∷ cs) [] e = omega arith
 present-most (c ∷ cs) (x ∷ es) e =
     omega (arith, kept-most x (present es), present-most cs es (both-right (entryFits c x) (entriesFit cs es) e))
@@ -310,9 +308,9 @@ present-most (c ∷ cs) (x ∷ es) e =
 -- the third field is required of every tag
 third : (a b c : Column) (cs : List Column) (es : List Entry) → c .2 ≡ true → entriesFit (a ∷ b ∷ c ∷ cs) es ≡ true
     → 1 ≤ length (present es)
-third a b c cs [] r e = true-false e
-third a b c cs (x ∷ []) r e = true-false (both-right (entryFits a x) false e)
-third a b c cs (x ∷ y ∷ []) r e = true-false (both-right (entryFits b y) false
+third a b c cs [] r e = false-true e
+third a b c cs (x ∷ []) r e = false-true (both-right (entryFits a x) false e)
+third a b c cs (x ∷ y ∷ []) r e = false-true (both-right (entryFits b y) false
     (both-right (entryFits a x) (entryFits b y && false) e))
 third a b c cs (x ∷ y ∷ z ∷ es) r e =
     let f = both-right (entryFits b y) (entriesFit (c ∷ cs) (z ∷ es))
@@ -321,7 +319,7 @@ third a b c cs (x ∷ y ∷ z ∷ es) r e =
     omega (arith, g, kept-least y (present (z ∷ es)), kept-least x (present (y ∷ z ∷ es)))
   where
     go : (w : Entry) → entryFits c w ≡ true → 1 ≤ length (kept w (present es))
-    go Missing f = true-false (rw r at f)
+    go Missing f = false-true (rw r at f)
     go (Number n) f = omega arith
     go (Text bytes) f = omega arith
 
@@ -396,7 +394,7 @@ canonical-read m fit = go (present (m .entries)) refl
 module _ (c : Column) (ok : sane c ≡ true) where
   number-fits : (x : Numeral) → isNumber (c .0) ≡ true → numberFits (c .1) x ≡ true → entryFits c (numberIn x) ≡ true
   number-fits (Value n) f g = rw (f, g)
-  number-fits NotANumber f g = true-false g
+  number-fits NotANumber f g = false-true g
 
   text-fits : (b : ℕ) (bs : List ℕ) (n : ℕ) → c .1 ≡ suc n → isNumber (c .0) ≡ false
       → cond (isName (c .0)) (each allowed (b ∷ bs)) (letterFits (b ∷ bs)) ≡ true
@@ -434,7 +432,7 @@ fields-fit (c ∷ cs) ps ok e =
         → (t : Bool) → pieceFits c (first ps) ≡ t
         → (entryFits c (entryIn c (first ps)) && entriesFit cs (entriesIn cs (rest ps))) ≡ true
     go more true f = rw (piece-fits c (both-left (sane c) (each sane cs) ok) (first ps) f, more (rw f at e))
-    go more false f = true-false (rw f at e)
+    go more false f = false-true (rw f at e)
 
 not-said : {A : Type 0} (m : Meaning) → notALine ≡ Says m → A
 not-said m e = let never : _≡_ {A = ℕ} 0 1 = cc in absurd (omega arith)

@@ -1,19 +1,18 @@
 -- Laws of text cut at separators: how a piece ends, and how columns go on with the pieces behind it.
 -- Assumes nothing.
 use mathlib.Core.Path.{_≡_, refl, ap, sym, _∙_}
-use mathlib.Core.Bool.{Bool, true, false, not, cond}
-use mathlib.Core.List.{List, [], _∷_, _++_, append-nil}
-use Prim.Native.Nat.{ℕ, zero, suc, _+_, _-_, _≤_, _<_}
+use mathlib.Core.Bool.{Bool, true, false, not}
+use mathlib.Core.List.{List, [], _∷_, _++_}
+use Prim.Native.Nat.{ℕ, suc, _+_, _-_, _≤_, _<_}
 use native.Mathlib.Numerals.{add-one}
 use native.Mathlib.Omega.{arith}
 use borrow.Author.Tests.{eq-eqb, ne-eqb, lt-ltb, le-ltb}
 use lib.Dec.{eqb, ltb}
-use lib.ListN.{length, getD, take, drop, length-drop, drop-of-length-le}
+use lib.ListN.{length, getD, drop, length-drop, drop-of-length-le}
 use lib.Seq.{drop-cons, take-suc, getD-drop}
 use Rattle.placing.specs.Placed.{part}
 use Rattle.layouts.specs.declared.Column.{Column}
 use Rattle.layouts.specs.Columns.{separator, noColumn}
-use Rattle.layouts.specs.Entries.{Entry}
 use Rattle.texts.specs.Pieces.{onto, split, first, rest, pieceFits, entryIn, isNone, fieldsFit, entriesIn}
 use Rattle.texts.specs.Pieces.{left, Ends, Next}
 

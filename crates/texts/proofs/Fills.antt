@@ -3,7 +3,7 @@
 use mathlib.Core.Path.{_≡_, refl, ap, sym, _∙_}
 use mathlib.Core.Bool.{Bool, true, false}
 use mathlib.Core.List.{List, [], _∷_, _++_, map, append-assoc, append-nil}
-use Prim.Native.Nat.{ℕ, zero, suc, _+_, _≤_, _<_}
+use Prim.Native.Nat.{ℕ, zero, suc, _+_, _<_}
 use native.Mathlib.Numerals.{add-one}
 use native.Mathlib.Omega.{arith}
 use borrow.Author.Tests.{eqb-true, eqb-false}
@@ -12,11 +12,10 @@ use lib.ListN.{length, getD, take, drop, set}
 use lib.Seq.{take-suc-set, getD-set-same, getD-set-other}
 use Rattle.layouts.specs.declared.Tag.{Tag}
 use Rattle.layouts.specs.declared.Field.{Field}
-use Rattle.layouts.specs.declared.Line.{Line}
 use Rattle.layouts.specs.declared.Column.{Column}
 use Rattle.layouts.specs.Columns.{columns, noColumn}
-use Rattle.layouts.specs.Entries.{Entry, Meaning, entryOf, meaningOf, noField, Within}
-use Rattle.texts.specs.Pieces.{first, rest, entryIn, entriesIn, split}
+use Rattle.layouts.specs.Entries.{Entry, entryOf, meaningOf, noField, Within}
+use Rattle.texts.specs.Pieces.{first, rest, entryIn, entriesIn}
 use Rattle.texts.proofs.Cuts.{entries-on, entries-end}
 
 map-append : (f : Field → Entry) (xs ys : List Field) → map f (xs ++ ys) ≡ map f xs ++ map f ys

@@ -20,7 +20,7 @@ use Rattle.layouts.specs.declared.Tag.{Tag}
 use Rattle.layouts.specs.declared.Tag.the-variants.{Pcr, Hbr, Sbr}
 use Rattle.layouts.specs.declared.Said.the-variants as said
 use Rattle.layouts.specs.Columns.{columns}
-use Rattle.layouts.specs.Entries.{Entry, Missing, Text}
+use Rattle.layouts.specs.Entries.{Missing, Text}
 use Rattle.layouts.specs.declared.Column.{Column}
 use Rattle.texts.specs.Pieces.{isNumber, numberFits, numberIn, letterFits, valueFits, valueIn, pieceFits}
 use Rattle.texts.specs.Pieces.{entryIn, numberSaid, Holds, short}

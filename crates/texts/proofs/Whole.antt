@@ -3,26 +3,27 @@
 use mathlib.Core.Path.{_≡_, refl, ap, sym, _∙_}
 use mathlib.Core.Bool.{Bool, true, false, cond, not, _&&_}
 use mathlib.Core.List.{List, [], _∷_}
-use Prim.Native.Nat.{ℕ, zero, suc, _+_, _-_, _≤_, _<_}
+use Prim.Native.Nat.{ℕ, _≤_, _<_}
 use native.Mathlib.Omega.{arith}
-use borrow.Author.Tests.{eq-eqb, ne-eqb, eqb-true}
+use borrow.Author.Tests.{eq-eqb, ne-eqb}
 use lib.Dec.{eqb}
-use lib.ListN.{length, getD, drop}
+use lib.ListN.{length, getD}
 use Rattle.answers.specs.declared.Answer.the-variants.{NotACountLine}
-use Rattle.words.proofs.Both.{both-left, both-right}
+use Rattle.words.proofs.Never.{false-true}
+use Rattle.words.proofs.Both.{both-right}
 use Rattle.layouts.specs.declared.Tag.{Tag}
 use Rattle.layouts.specs.declared.Tag.the-variants.{Pcr, Hbr, Sbr}
 use Rattle.layouts.specs.declared.Said.{Said}
 use Rattle.layouts.specs.declared.Said.the-variants as said
 use Rattle.layouts.specs.declared.Line.{Line}
-use Rattle.layouts.specs.declared.Fault.the-variants.{None, Found}
 use Rattle.layouts.specs.Columns.{lineFeed, carriageReturn, tagText, columns}
-use Rattle.layouts.specs.Entries.{Entry, Missing, Meaning, entryOf, entriesOf, noField, isMissing}
+use Rattle.layouts.specs.Entries.{Missing, entryOf, entriesOf, noField, isMissing}
 use Rattle.layouts.specs.Judging.{refusing, Judging, Says}
 use Rattle.layouts.proofs.Laid.{said-at}
+use Rattle.layouts.proofs.Faults.{found-none}
 use Rattle.texts.specs.Pieces.{fieldsFit, entriesIn}
 use Rattle.texts.specs.declared.Tagging.the-variants.{Known, Other}
-use Rattle.texts.specs.Texts.{isBreak, back, ending, starts, unbroken, tagOf, none, sitesFit, notALine}
+use Rattle.texts.specs.Texts.{back, ending, starts, unbroken, tagOf, none, sitesFit, notALine}
 use Rattle.texts.specs.Texts.{fieldsMean, taggedMeans, contentMeans, Taken}
 
 -- ---- its ending
@@ -111,8 +112,7 @@ module _ (a b c d : ℕ) where
 -- a text that begins with four bytes has them
 pub starts-four : (t s : List ℕ) → starts t s ≡ true → length t ≤ length s
 starts-four [] s e = omega arith
-starts-four (x ∷ t) [] e = let never : _≡_ {A = Bool} false true = e in let no : _≡_ {A = ℕ} 0 1 = cc in absurd
-    (omega arith)
+starts-four (x ∷ t) [] e = false-true e
 starts-four (x ∷ t) (b ∷ s) e = omega (arith, starts-four t s (both-right (eqb b x) (starts t s) e))
 
 module _ (s : List ℕ) where
@@ -163,10 +163,7 @@ module _ (source : List ℕ) (line : Line) (seven : length (line .fields) ≡ 7)
 -- ---- taken apart
 
 pub taken-refused : (s : List ℕ) (m : Judging) → m ≡ notALine → Taken s m (refusing NotACountLine)
-taken-refused s m e = record { means = sym e; there = λ f. absurd (found-none f) }
-  where
-    found-none : Found NotACountLine ≡ None → ⊥
-    found-none f = let never : _≡_ {A = ℕ} 0 1 = cc in omega arith
+taken-refused s m e = record { means = sym e; there = λ f. found-none NotACountLine f }
 
 module _ (tag : Tag) (ps : List (List ℕ)) where
   pub mean-misfit : fieldsFit (columns tag) ps ≡ false → fieldsMean tag ps ≡ notALine

@@ -17,7 +17,7 @@ use Rattle.layouts.specs.Columns.{columns}
 use Rattle.layouts.specs.Names.{allowed}
 use Rattle.layouts.specs.Entries.{Entry, Missing, Number, Text, Meaning}
 use Rattle.layouts.specs.Layouts.{isName, textOf}
-use Rattle.layouts.specs.Judging.{Judging, Says}
+use Rattle.layouts.specs.Judging.{Says}
 use Rattle.texts.specs.Pieces.{isNumber, letterFits}
 use Rattle.texts.specs.Texts.{sitesFit, lineMeaning}
 

@@ -26,7 +26,7 @@ use Rattle.layouts.specs.declared.Said.the-variants as said
 use Rattle.layouts.specs.declared.Line.{Line}
 use Rattle.layouts.specs.Columns.{separator, columns}
 use Rattle.layouts.specs.Names.{allowed}
-use Rattle.layouts.specs.Entries.{Entry, Missing, Number, Text, Meaning, entryOf, meaningOf, Within, AllWithin}
+use Rattle.layouts.specs.Entries.{Entry, Missing, Number, Text, entryOf, meaningOf, Within, AllWithin}
 use Rattle.layouts.specs.Layouts.{isName}
 use Rattle.texts.specs.declared.Piece.{Piece}
 

@@ -21,7 +21,7 @@ use Rattle.layouts.specs.declared.Line.{Line}
 use Rattle.layouts.specs.declared.Fault.the-variants.{None}
 use Rattle.layouts.specs.declared.Judged.{Judged}
 use Rattle.layouts.specs.Columns.{lineFeed, carriageReturn, tagText, columns}
-use Rattle.layouts.specs.Entries.{Entry, Missing, Number, Text, Meaning, entriesOf, AllWithin}
+use Rattle.layouts.specs.Entries.{Entry, Missing, Number, Text, entriesOf, AllWithin}
 use Rattle.layouts.specs.Judging.{Judging, Says, Faulty, saidIn}
 use Rattle.texts.specs.declared.Tagging.{Tagging}
 use Rattle.texts.specs.declared.Tagging.the-variants.{Known, Other}

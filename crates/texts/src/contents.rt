@@ -13,7 +13,6 @@ use layouts::judging::said_line;
 use layouts::laying::is_missing;
 use layouts::laying::said_at;
 ghost use mathlib.Core.Path.{_≡_};
-ghost use mathlib.Core.Bool.{not};
 ghost use mathlib.Core.List.{[], _∷_};
 ghost use Prim.Native.Nat.{_-_, _≤_};
 ghost use lib.ListN.{length, drop};

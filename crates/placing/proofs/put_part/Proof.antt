@@ -1,7 +1,7 @@
 -- `placing::put_part` meets its contract: after i turns the first i bytes of the part are laid over the start.
 -- Assumes nothing.
 use mathlib.Core.Path.{_≡_, sym}
-use Prim.Native.Nat.{_+_, _≤_, _-_}
+use Prim.Native.Nat.{_≤_, _-_}
 use native.Mathlib.Omega.{arith}
 use lib.ListN.{length, length-set}
 use denote.Ref.{now}

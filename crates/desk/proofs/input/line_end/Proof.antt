@@ -1,10 +1,10 @@
--- `desk::lines::line_end` ends, within the chunk.
+-- `desk::input::line_end` ends, within the chunk.
 -- Assumes nothing.
 use Prim.Native.Nat.{_-_, _≤_}
 use lib.ListN.{length}
 use borrow.Author.Needs.{needs}
-use Rattle.desk.proofs.lines.line_end.Statement.{statement}
-use Rattle.desk.proofs.lines.line_end.Tie as tie
+use Rattle.desk.proofs.input.line_end.Statement.{statement}
+use Rattle.desk.proofs.input.line_end.Tie as tie
 
 abbrev Inv-loop : tie.InvT-loop
 Inv-loop chunk from i₀ i = (from ≤ i) × (i ≤ length chunk)

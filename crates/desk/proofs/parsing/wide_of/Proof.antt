@@ -1,13 +1,13 @@
--- `desk::parsing::number_of` ends, and its number stays below 2 to the 32nd.
+-- `desk::parsing::wide_of` ends, and its number stays below 2 to the 64th.
 -- Assumes nothing.
 use Prim.Native.Nat.{_-_, _≤_}
 use lib.ListN.{length}
 use borrow.Author.Needs.{needs}
-use Rattle.desk.proofs.parsing.number_of.Statement.{statement}
-use Rattle.desk.proofs.parsing.number_of.Tie as tie
+use Rattle.desk.proofs.parsing.wide_of.Statement.{statement}
+use Rattle.desk.proofs.parsing.wide_of.Tie as tie
 
 abbrev Inv-loop : tie.InvT-loop
-Inv-loop word n₀ i₀ n i = (i ≤ length word) × (n ≤ 4294967295)
+Inv-loop word n₀ i₀ n i = (i ≤ length word) × (n ≤ 18446744073709551615)
 
 abbrev μ-loop : tie.MeasureT-loop
 μ-loop word n₀ i₀ n i = length word - i
@@ -26,17 +26,20 @@ shared-slice-read-digit c = search needs
 digit-requires : tie.Need-digit-requires Inv-loop μ-loop
 digit-requires c κs = search needs
 
+returns-2 : tie.Need-returns-2 Inv-loop μ-loop
+returns-2 c = search needs
+
+sub-if4 : tie.Need-sub-if4 Inv-loop μ-loop
+sub-if4 c = search needs
+
+returns-3 : tie.Need-returns-3 Inv-loop μ-loop
+returns-3 c = search needs
+
 mul-n : tie.Need-mul-n Inv-loop μ-loop
 mul-n c = search needs
 
 add-n : tie.Need-add-n Inv-loop μ-loop
 add-n c = search needs
-
-returns-2 : tie.Need-returns-2 Inv-loop μ-loop
-returns-2 c = search needs
-
-returns-3 : tie.Need-returns-3 Inv-loop μ-loop
-returns-3 c = search needs
 
 add-i : tie.Need-add-i Inv-loop μ-loop
 add-i c = search needs
@@ -47,14 +50,11 @@ loop-less c = search needs
 loop-again : tie.Need-loop-again Inv-loop μ-loop
 loop-again c = search needs
 
-cast-t14 : tie.Need-cast-t14 Inv-loop μ-loop
-cast-t14 c = search needs
-
 returns-4 : tie.Need-returns-4 Inv-loop μ-loop
 returns-4 c = search needs
 
-pub number-of-spec : {M : Type 1} → statement M
-number-of-spec =
+pub wide-of-spec : {M : Type 1} → statement M
+wide-of-spec =
     tie.close
     (tie.spec
     Inv-loop
@@ -63,12 +63,12 @@ number-of-spec =
     loop-holds
     shared-slice-read-digit
     digit-requires
+    returns-2
+    sub-if4
+    returns-3
     mul-n
     add-n
-    returns-2
-    returns-3
     add-i
     loop-less
     loop-again
-    cast-t14
     returns-4)

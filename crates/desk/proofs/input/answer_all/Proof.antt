@@ -1,8 +1,8 @@
--- `desk::lines::answer_all` ends: the measure is the number of turns that are left.
+-- `desk::input::answer_all` ends: the measure is the number of turns that are left.
 -- Assumes nothing.
 use borrow.Author.Needs.{needs}
-use Rattle.desk.proofs.lines.answer_all.Statement.{statement}
-use Rattle.desk.proofs.lines.answer_all.Tie as tie
+use Rattle.desk.proofs.input.answer_all.Statement.{statement}
+use Rattle.desk.proofs.input.answer_all.Tie as tie
 
 abbrev Inv-loop : tie.InvT-loop
 Inv-loop line₀ desk₀ turns₀ line desk turns = Unit {0}

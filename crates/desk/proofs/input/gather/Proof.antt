@@ -1,11 +1,11 @@
--- `desk::lines::gather` ends, and stays within the line: the bytes were seen to fit behind its first `long`.
+-- `desk::input::gather` ends, and stays within the line: the bytes were seen to fit behind its first `long`.
 -- Assumes nothing.
 use mathlib.Core.Path.{_≡_}
 use Prim.Native.Nat.{_-_, _≤_}
 use lib.ListN.{length}
 use borrow.Author.Needs.{needs}
-use Rattle.desk.proofs.lines.gather.Statement.{statement}
-use Rattle.desk.proofs.lines.gather.Tie as tie
+use Rattle.desk.proofs.input.gather.Statement.{statement}
+use Rattle.desk.proofs.input.gather.Tie as tie
 
 abbrev Inv-loop : tie.InvT-loop
 Inv-loop line₀ long bytes i₀ line i = (i ≤ length bytes) × (length line ≡ length line₀)

@@ -1,11 +1,11 @@
--- `desk::lines::take_chunk` ends: each line that it finds starts behind the last.
+-- `desk::input::take_chunk` ends: each line that it finds starts behind the last.
 -- Assumes nothing.
 use mathlib.Core.Path.{_≡_}
 use Prim.Native.Nat.{_-_, _≤_}
 use lib.ListN.{length}
 use borrow.Author.Needs.{needs}
-use Rattle.desk.proofs.lines.take_chunk.Statement.{statement}
-use Rattle.desk.proofs.lines.take_chunk.Tie as tie
+use Rattle.desk.proofs.input.take_chunk.Statement.{statement}
+use Rattle.desk.proofs.input.take_chunk.Tie as tie
 
 abbrev Inv-loop : tie.InvT-loop
 Inv-loop line₀ chunk d₀ from₀ line d from = (from ≤ length chunk) × (length line ≡ length line₀)

@@ -1,0 +1,231 @@
+-- The body that a meaning's record has: how long each field is, that it fits its table, and what stands behind a field.
+-- Assumes nothing.
+use mathlib.Core.Path.{_≡_, refl, ap, sym, _∙_}
+use mathlib.Core.Bool.{Bool, true, false, cond, not, _&&_}
+use mathlib.Core.List.{List, [], _∷_, _++_, map}
+use Prim.Native.Nat.{ℕ, zero, suc, _+_, _-_, _*_, _≤_, _<_}
+use native.Mathlib.Omega.{arith}
+use borrow.Author.Tests.{le-leb, leb-true, not-true}
+use lib.Dec.{leb, ltb}
+use lib.ListN.{length, getD, drop, length-append}
+use lib.Seq.{drop-append-seam, drop-at, drop-drop, drop-nil}
+use Rattle.words.specs.Each.{each}
+use Rattle.words.proofs.Never.{false-true}
+use Rattle.words.proofs.Both.{both-left, both-right}
+use Rattle.numbers.specs.declared.Order.{Order}
+use Rattle.numbers.specs.Numbers.{written, past}
+use Rattle.numbers.proofs.Laws.{length-written, one-written}
+use Rattle.fields.specs.Fields.{size, fits}
+use Rattle.layouts.specs.declared.Tag.{Tag}
+use Rattle.layouts.specs.declared.Tag.the-variants.{Pcr, Hbr, Sbr}
+use Rattle.layouts.specs.declared.Form.{Form}
+use Rattle.layouts.specs.declared.Form.the-variants.{U1, U2, U4, C1, Cn}
+use Rattle.layouts.specs.declared.Column.{Column}
+use Rattle.layouts.specs.declared.Layout.the-variants as layout
+use Rattle.layouts.specs.Columns.{columns, noColumn, width}
+use Rattle.layouts.specs.Names.{allowed}
+use Rattle.layouts.specs.Entries.{Entry, Missing, Number, Text, kept, present}
+use Rattle.layouts.specs.Layouts.{isName, missingValue, stored, laid}
+use Rattle.texts.specs.Pieces.{isNumber, letterFits}
+use Rattle.texts.specs.Laws.{entryFits, entriesFit}
+use Rattle.lines.proofs.Most.{laid-none}
+
+-- a column's type in the tables of `fields`: its width, 0 where a count byte tells it
+abbrev pub typeOf : Form → ℕ
+typeOf form = cond (isName form) 0 (width form)
+
+-- what the tables are such that: a number fits its width, a name its count byte, P/F one byte
+abbrev pub roomy : Column → Bool
+roomy c = cond (isNumber (c .0)) (ltb (c .1) (past (width (c .0)))) (leb (c .1) (cond (isName (c .0)) 255 1))
+
+pub roomy-columns : (tag : Tag) → each roomy (columns tag) ≡ true
+roomy-columns Pcr = refl
+roomy-columns Hbr = refl
+roomy-columns Sbr = refl
+
+-- ---- one field
+
+-- as long as its table's type says, and short
+pub record Sized (form : Form) (bytes : List ℕ) : Type 0 where
+  pub some : 1 ≤ length bytes
+  pub few : length bytes ≤ 256
+  pub is : size (typeOf form) (getD bytes 0 0) ≡ length bytes
+
+module _ (order : Order) where
+  number-sized : (form : Form) (n : ℕ) → isName form ≡ false → Sized form (written order (width form) n)
+  number-sized U1 n e = let w = length-written order 1 n in record { some = omega arith; few = omega arith; is = sym w }
+  number-sized U2 n e = let w = length-written order 2 n in record { some = omega arith; few = omega arith; is = sym w }
+  number-sized U4 n e = let w = length-written order 4 n in record { some = omega arith; few = omega arith; is = sym w }
+  number-sized C1 n e = let w = length-written order 1 n in record { some = omega arith; few = omega arith; is = sym w }
+  number-sized Cn n e = false-true (sym e)
+
+  name-sized : (bytes : List ℕ) → length bytes ≤ 255 → Sized Cn (written order 1 (length bytes) ++ bytes)
+  name-sized bytes h =
+      rw (one-written order (length bytes) (omega arith))
+      (record { some = omega arith; few = omega arith; is = omega arith })
+
+  missing-sized : (form : Form) → Sized form (stored order form Missing)
+  missing-sized U1 = number-sized U1 (missingValue U1) refl
+  missing-sized U2 = number-sized U2 (missingValue U2) refl
+  missing-sized U4 = number-sized U4 (missingValue U4) refl
+  missing-sized C1 = number-sized C1 (missingValue C1) refl
+  missing-sized Cn =
+      rw (one-written order 0 (omega arith)) (record { some = omega arith; few = omega arith; is = refl })
+
+  value-sized : (form : Form) (n : ℕ) → isNumber form ≡ true → Sized form (stored order form (Number n))
+  value-sized U1 n e = number-sized U1 n refl
+  value-sized U2 n e = number-sized U2 n refl
+  value-sized U4 n e = number-sized U4 n refl
+  value-sized C1 n e = false-true e
+  value-sized Cn n e = false-true e
+
+  text-sized : (form : Form) (most : ℕ) (bytes : List ℕ) → isNumber form ≡ false → 1 ≤ length bytes
+      → length bytes ≤ most → most ≤ cond (isName form) 255 1 → Sized form (stored order form (Text bytes))
+  text-sized U1 most bytes e some few room = false-true (sym e)
+  text-sized U2 most bytes e some few room = false-true (sym e)
+  text-sized U4 most bytes e some few room = false-true (sym e)
+  text-sized C1 most bytes e some few room = record { some = some; few = omega arith; is = omega arith }
+  text-sized Cn most bytes e some few room = name-sized bytes (omega arith)
+
+  pub entry-sized : (c : Column) (e : Entry) → roomy c ≡ true → entryFits c e ≡ true
+      → Sized (c .0) (stored order (c .0) e)
+  entry-sized c Missing room e = missing-sized (c .0)
+  entry-sized c (Number n) room e = value-sized (c .0) n (both-left (isNumber (c .0)) (leb n (c .1)) e)
+  entry-sized c (Text []) room e = false-true e
+  entry-sized c (Text (b ∷ bs)) room e =
+      let rule = cond (isName (c .0)) (each allowed (b ∷ bs)) (letterFits (b ∷ bs)) in
+      let short = leb (length (b ∷ bs)) (c .1) in
+      let text = not-true (isNumber (c .0)) (both-left (not (isNumber (c .0))) (short && rule) e) in
+      let few = both-left short rule (both-right (not (isNumber (c .0))) (short && rule) e) in
+      text-sized (c .0) (c .1) (b ∷ bs) text (omega arith) (leb-true (length (b ∷ bs)) (c .1) few)
+      (leb-true (c .1) (cond (isName (c .0)) 255 1) (rw text at room))
+
+-- ---- field after field
+
+-- a field that is as long as its type says, then the rest
+fits-on : (f : ℕ) (fs : List ℕ) (required : ℕ) (x rest : List ℕ) → 1 ≤ length x → size f (getD x 0 0) ≡ length x
+    → fits (f ∷ fs) required (x ++ rest) ≡ fits fs (required - 1) rest
+fits-on f fs required [] rest some is = absurd (omega arith)
+fits-on f fs required (b ∷ bs) rest some is =
+    let whole : length (b ∷ bs) ≤ length (b ∷ bs ++ rest) = omega (arith, length-append bs rest) in
+    rw (is, le-leb (length (b ∷ bs)) (length (b ∷ bs ++ rest)) whole, drop-append-seam (b ∷ bs) rest)
+
+-- entries without the missing ones at their end: none, or the first one and the rest
+kept-by : (P : Entry → List Entry → List Entry → Type 0) → P Missing [] []
+    → ((e : Entry) (es : List Entry) → P e es (e ∷ es)) → (e : Entry) (es : List Entry) → P e es (kept e es)
+kept-by P none some Missing [] = none
+kept-by P none some Missing (x ∷ es) = some Missing (x ∷ es)
+kept-by P none some (Number n) es = some (Number n) es
+kept-by P none some (Text bytes) es = some (Text bytes) es
+
+kept-more : (e x : Entry) (es : List Entry) → kept e (x ∷ es) ≡ e ∷ x ∷ es
+kept-more Missing x es = refl
+kept-more (Number n) x es = refl
+kept-more (Text bytes) x es = refl
+
+-- two that may be missing stand before one that is present
+pub length-kept-two : (a b x : Entry) (es : List Entry) → length (kept a (kept b (x ∷ es))) ≡ 3 + length es
+length-kept-two a b x es = rw (kept-more b x es, kept-more a b (x ∷ es)) (omega arith)
+
+-- entries that fit are one for each column
+pub length-fit : (cs : List Column) (es : List Entry) → entriesFit cs es ≡ true → length es ≡ length cs
+length-fit [] [] e = refl
+length-fit [] (x ∷ es) e = false-true e
+length-fit (c ∷ cs) [] e = false-true e
+length-fit (c ∷ cs) (x ∷ es) e = ap suc (length-fit cs es (both-right (entryFits c x) (entriesFit cs es) e))
+
+pub fit-at : (cs : List Column) (es : List Entry) (j : ℕ) → entriesFit cs es ≡ true → j < length cs
+    → entryFits (getD cs j noColumn) (getD es j Missing) ≡ true
+fit-at [] es j e h = absurd (omega arith)
+fit-at (c ∷ cs) [] j e h = false-true e
+fit-at (c ∷ cs) (x ∷ es) zero e h = both-left (entryFits c x) (entriesFit cs es) e
+fit-at (c ∷ cs) (x ∷ es) (suc j) e h =
+    fit-at cs es j (both-right (entryFits c x) (entriesFit cs es) e) (omega arith)
+
+module _ (order : Order) where
+  abbrev pub laidIn : List Column → List Entry → List ℕ
+  laidIn cs es = laid (layout.Record order) cs es
+
+  abbrev types : List Column → List ℕ
+  types cs = map (λ (c : Column). typeOf (c .0)) cs
+
+  module _ (c : Column) (cs : List Column) where
+    pub laid-first : (e : Entry) (es : List Entry) → laidIn (c ∷ cs) (e ∷ es) ≡ stored order (c .0) e ++ laidIn cs es
+    unfolding laid
+    laid-first e es = refl
+
+    no-fields : laidIn (c ∷ cs) [] ≡ []
+    no-fields = laid-none (layout.Record order) (c ∷ cs)
+
+    fits-kept : (e : Entry) (es : List Entry) (required : ℕ) → Sized (c .0) (stored order (c .0) e)
+        → required ≤ length (kept e es)
+        → (required - 1 ≤ length es → fits (types cs) (required - 1) (laidIn cs es) ≡ true)
+        → fits (types (c ∷ cs)) required (laidIn (c ∷ cs) (kept e es)) ≡ true
+    fits-kept =
+        kept-by
+        (λ (e : Entry) (es all : List Entry). (required : ℕ) → Sized (c .0) (stored order (c .0) e)
+        → required ≤ length all
+        → (required - 1 ≤ length es → fits (types cs) (required - 1) (laidIn cs es) ≡ true)
+        → fits (types (c ∷ cs)) required (laidIn (c ∷ cs) all) ≡ true)
+        (λ required s few more. rw no-fields (le-leb required 0 few))
+        (λ e es required s few more. rw (laid-first e es)
+        (fits-on (typeOf (c .0)) (types cs) required (stored order (c .0) e) (laidIn cs es) (s .some) (s .is)
+        ∙ more (omega arith)))
+
+    length-kept : (e : Entry) (es : List Entry) → Sized (c .0) (stored order (c .0) e)
+        → length (laidIn (c ∷ cs) (kept e es)) ≤ 256 + length (laidIn cs es)
+    length-kept =
+        kept-by
+        (λ (e : Entry) (es all : List Entry). Sized (c .0) (stored order (c .0) e)
+        → length (laidIn (c ∷ cs) all) ≤ 256 + length (laidIn cs es))
+        (λ s. rw no-fields (omega arith))
+        (λ e es s. rw (laid-first e es)
+        (omega (arith, length-append (stored order (c .0) e) (laidIn cs es), s .few)))
+
+    -- what stands behind a field at place k
+    pub behind : (body : List ℕ) (k w : ℕ) (e : Entry) (es : List Entry) → length (stored order (c .0) e) ≡ w
+        → drop k body ≡ laidIn (c ∷ cs) (kept e es) → drop (k + w) body ≡ laidIn cs es
+    behind body k w =
+        kept-by
+        (λ (e : Entry) (es all : List Entry). length (stored order (c .0) e) ≡ w
+        → drop k body ≡ laidIn (c ∷ cs) all → drop (k + w) body ≡ laidIn cs es)
+        (λ s at. sym (drop-drop w k body) ∙ ap (drop w) (at ∙ no-fields) ∙ drop-nil w
+        ∙ sym (laid-none (layout.Record order) cs))
+        (λ e es s at. sym (drop-drop w k body) ∙ ap (drop w) (at ∙ laid-first e es)
+        ∙ drop-at (stored order (c .0) e) (laidIn cs es) w s)
+
+  module _ (c : Column) (cs : List Column) (x : Entry) (es : List Entry) (room : each roomy (c ∷ cs) ≡ true)
+      (e : entriesFit (c ∷ cs) (x ∷ es) ≡ true) where
+    first-sized : Sized (c .0) (stored order (c .0) x)
+    first-sized =
+        entry-sized order c x (both-left (roomy c) (each roomy cs) room)
+        (both-left (entryFits c x) (entriesFit cs es) e)
+
+    rest-roomy : each roomy cs ≡ true
+    rest-roomy = both-right (roomy c) (each roomy cs) room
+
+    rest-fit : entriesFit cs es ≡ true
+    rest-fit = both-right (entryFits c x) (entriesFit cs es) e
+
+  -- a body with its required fields fits its table
+  pub laid-fits : (cs : List Column) (es : List Entry) (required : ℕ) → each roomy cs ≡ true → entriesFit cs es ≡ true
+      → required ≤ length (present es) → fits (types cs) required (laidIn cs (present es)) ≡ true
+  laid-fits [] [] required room e few = rw (laid-none (layout.Record order) [])
+  laid-fits [] (x ∷ es) required room e few = false-true e
+  laid-fits (c ∷ cs) [] required room e few = false-true e
+  laid-fits (c ∷ cs) (x ∷ es) required room e few =
+      fits-kept c cs x (present es) required (first-sized c cs x es room e) few
+      (λ more. laid-fits cs es (required - 1) (rest-roomy c cs x es room e) (rest-fit c cs x es room e) more)
+
+  -- REC_LEN holds its length
+  pub laid-short : (cs : List Column) (es : List Entry) → each roomy cs ≡ true → entriesFit cs es ≡ true
+      → length (laidIn cs (present es)) ≤ 256 * length cs
+  laid-short [] [] room e = rw (laid-none (layout.Record order) []) (omega arith)
+  laid-short [] (x ∷ es) room e = false-true e
+  laid-short (c ∷ cs) [] room e = false-true e
+  laid-short (c ∷ cs) (x ∷ es) room e =
+      omega (
+        arith,
+        length-kept c cs x (present es) (first-sized c cs x es room e),
+        laid-short cs es (rest-roomy c cs x es room e) (rest-fit c cs x es room e),
+      )
