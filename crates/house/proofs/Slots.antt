@@ -265,10 +265,11 @@ module _ (h : House) (slot : ℕ) (shape : Shaped h) (e : sound h ≡ true) (ins
       → (slotAt (closeSlot h slot .house) slot ≡ closedSlot) × (rowsAt (closeSlot h slot .house) slot ≡ [])
   unfolding closeSlot
   own-close t =
-      rw (e, lt-ltb slot slotCount inside, t)
-      (set-own h slot shape inside closedSlot,
-      dropped-rows-by slot (h .keys) (h .counts) (h .used) slot (keys-kept h slot shape e inside)
-      ∙ rw (eq-eqb slot slot refl))
+      rw (e, lt-ltb slot slotCount inside, t) (
+        set-own h slot shape inside closedSlot,
+        dropped-rows-by slot (h .keys) (h .counts) (h .used) slot (keys-kept h slot shape e inside)
+            ∙ rw (eq-eqb slot slot refl),
+      )
 
   pub own-open : (floor : ℕ) → leb floor rowCount ≡ true → slotAt h slot .taken ≡ false
       → leb floor (free h - promised h) ≡ true

@@ -1,0 +1,28 @@
+-- The table of specs/Marked.antt, by computation.
+-- Assumes nothing.
+use mathlib.Core.Path.{_≡_, refl}
+use Rattle.house.specs.House.{sound, rowsSound, slotsSound, slotSound, promisedFrom, unfilled}
+use Rattle.house.specs.Deliver.{granted, rowTaken, resultedIf, settled, delivered}
+use Rattle.house.specs.Calls.{openSlot, closeSlot, deliver}
+use Rattle.house.specs.Report.{rowAt, reported}
+use Rattle.rows.specs.Rows.{slotDropped, heldBy, sumBy, rowRight, rowsRight, countedMore, countedNew, counted}
+use Rattle.rows.specs.Counts.{plus}
+use Rattle.rising.specs.Rising.{risingFrom, rising, rank, held, allBelow, insertAt, removeAt}
+use Rattle.session.specs.Session as session
+use Rattle.session.specs.Session.{partsRight}
+use Rattle.session.specs.Judge.{judgeIn, judgeFirst, judgePir, judgePrr, judgeLater, judge}
+use Rattle.frames.specs.Frames.{isRecord}
+use Rattle.kinds.specs.Kinds.{named, hasType, beyondTable, kindOf}
+use Rattle.bodies.specs.Bodies.{readBody}
+use Rattle.bodies.specs.Values.{softBinFits}
+use Rattle.placing.specs.Placed.{placedAt}
+use Rattle.digits.specs.Digits.{digits, isDigit, numeral}
+use Rattle.layouts.specs.Names.{allowed}
+use Rattle.layouts.specs.Layouts.{laid}
+use Rattle.texts.specs.Texts.{ending, tagOf, sitesFit, contentMeans}
+use Rattle.texts.specs.Pieces.{split, pieceFits, entryIn, fieldsFit, entriesIn}
+use Rattle.marked.specs.Marked.{table, Marked}
+
+pub marked-cases : Marked
+unfolding table sound rowsSound slotsSound slotSound promisedFrom unfilled granted rowTaken resultedIf settled delivered openSlot deliver rowAt reported heldBy sumBy rowRight rowsRight countedMore countedNew counted plus risingFrom rising rank held allBelow insertAt removeAt session.sound partsRight judgeIn judgeFirst judgePir judgePrr judgeLater judge isRecord named kindOf readBody softBinFits closeSlot slotDropped hasType beyondTable placedAt digits isDigit numeral allowed laid ending tagOf sitesFit contentMeans split pieceFits entryIn fieldsFit entriesIn
+marked-cases = refl
