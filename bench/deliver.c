@@ -1,4 +1,4 @@
-// What crates/bench_deliver does, in C: one PTR delivered a hundred thousand times to a house with 1,000 rows, by value.
+// What crates/bench_deliver does, in C: a PTR delivered a hundred thousand times, by value, to a house with 1,000 rows.
 #include <stdio.h>
 
 #include "house.h"

@@ -1,11 +1,11 @@
-// feed PROGRAM [WORD..] < STREAMS > ANSWERS: starts a program once for each stream and keeps what it wrote. In C, since
-// starting a program a hundred thousand times is most of what a comparison takes.
+// feed PROGRAM [WORD..] < STREAMS > ANSWERS: starts a program once for each stream and keeps what it wrote. In C,
+// since starting a program a hundred thousand times is most of what a comparison takes.
 //
 //   STREAMS   length U4, cutting U4, the bytes; numbers as the machine has them
 //   ANSWERS   how the program ended U4 (0: well), length U4, the bytes
 //
-// With cutting 0 the program reads a file. Else cutting is a seed: it reads a pipe that is given one piece at a time, the
-// next only when the one before is taken, so that its reads come back short at places that differ from seed to seed.
+// With cutting 0 the program reads a file. Else cutting is a seed: it reads a pipe that is given one piece at a time,
+// the next only when the one before is taken, so that its reads come back short at places that differ by the seed.
 #define _GNU_SOURCE
 #include <fcntl.h>
 #include <poll.h>
@@ -109,8 +109,8 @@ int main(int count, char **words) {
         uint8_t *bytes = malloc(head[0] + 1u);
         int out = memfd_create("answer", MFD_CLOEXEC);
         if (!bytes || out < 0 || fread(bytes, 1, head[0], stdin) != head[0]) die("streams");
-        uint32_t how = head[1] ? run_on_pipe(words + 1, out, bytes, head[0], head[1]) : run_on_file(words + 1, out, bytes, head[0]);
-        answer(how, out);
+        if (head[1]) answer(run_on_pipe(words + 1, out, bytes, head[0], head[1]), out);
+        else answer(run_on_file(words + 1, out, bytes, head[0]), out);
         close(out);
         free(bytes);
     }

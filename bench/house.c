@@ -9,8 +9,8 @@ struct held {
     uint32_t rows[SLOTS];
 };
 
-// Rising, and each key and count as a part can have them. No way out on the way, so that a compiler can take several rows
-// at a time.
+// Rising, and each key and count as a part can have them. No way out on the way, so that a compiler can take several
+// rows at a time.
 static bool rows_right(const uint64_t *keys, const uint64_t *counts, size_t used) {
     uint64_t bad = 0;
     for (size_t i = 0; i < used; i++) {

@@ -1,5 +1,5 @@
-// STDF V4 as document 01 condenses it, for the programs in C that the proved ones are measured against: kinds, the order
-// of a stream, and whether a body fits. Written by hand as one would in C; nothing here is proved.
+// STDF V4 as document 01 condenses it, for the programs in C that the proved ones are measured against: kinds, the
+// order of a stream, and whether a body fits. Written by hand as one would in C; nothing here is proved.
 #ifndef STDF_H
 #define STDF_H
 

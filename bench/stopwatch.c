@@ -1,5 +1,5 @@
-// stopwatch IN OUT PROGRAM [WORD..]: runs a program once, from the file IN to the file OUT, and prints how many nanoseconds
-// went by from its start to its end.
+// stopwatch IN OUT PROGRAM [WORD..]: runs a program once, from the file IN to the file OUT, and prints how many
+// nanoseconds went by from its start to its end.
 #include <fcntl.h>
 #include <stdio.h>
 #include <stdlib.h>
@@ -26,13 +26,14 @@ static _Noreturn void become(char **words) {
 }
 
 int main(int count, char **words) {
-    int status;
+    int status = 1;
     if (count < 4) return fputs("usage: stopwatch IN OUT PROGRAM [WORD..]\n", stderr), 2;
     long long began = now();
     pid_t child = fork();
     if (child < 0) die("fork");
     if (!child) become(words + 1);
-    if (waitpid(child, &status, 0) != child || status) return fprintf(stderr, "stopwatch: %s ended badly\n", words[3]), 1;
+    waitpid(child, &status, 0);
+    if (status) return fprintf(stderr, "stopwatch: %s ended badly\n", words[3]), 1;
     printf("%lld\n", now() - began);
     return 0;
 }

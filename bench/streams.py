@@ -1,7 +1,7 @@
-"""Streams to compare two tally programs on: lots that are right, and the same lots damaged in the ways that streams are.
+"""Streams to compare two tally programs on: lots that are right, and lots damaged in the ways that streams are.
 
-`stream(seed, number)` gives one, the same for the same two numbers. Every damage is a function of its own below; each takes
-the random numbers, the byte order and the list of records, and changes the list. Nothing here judges a stream.
+`stream(seed, number)` gives one, the same for the same two numbers. Every damage is a function of its own below: it
+takes the random numbers and the records, or the bytes, and changes them. Nothing here judges a stream.
 """
 import random
 
@@ -12,8 +12,8 @@ FAR = {"little": bytes([2, 0, 0, 10, 2, 4]), "big": bytes([0, 2, 0, 10, 1, 4])}
 ATR, MIR, MRR, PCR, HBR, SBR, RDR, SDR = (0, 20), (1, 10), (1, 20), (1, 30), (1, 40), (1, 50), (1, 70), (1, 80)
 PIR, PRR = (5, 10), (5, 20)
 # kinds whose bodies aren't read and whose place in the body isn't judged, custom ones last
-FREE = [(1, 60), (1, 62), (1, 63), (2, 10), (2, 20), (2, 30), (10, 30), (15, 10), (15, 15), (15, 20), (20, 10), (20, 20),
-        (50, 10), (50, 30), (201, 0), (255, 255), (0, 201), (50, 201), (1, 255), (15, 240)]
+FREE = [(1, 60), (1, 62), (1, 63), (2, 10), (2, 20), (2, 30), (10, 30), (15, 10), (15, 15), (15, 20), (20, 10),
+        (20, 20), (50, 10), (50, 30), (201, 0), (255, 255), (0, 201), (50, 201), (1, 255), (15, 240)]
 READ = [MIR, MRR, PCR, HBR, SBR, PIR, PRR]
 # pairs beside the borders of known, custom and unknown
 EDGES = FREE + READ + [ATR, RDR, SDR, (0, 10), (0, 200), (1, 200), (3, 201), (3, 10), (180, 10), (180, 201), (181, 0),
@@ -69,7 +69,8 @@ def prr(rng, order, part, hard):
     flag = rng.choice((0, 8, 16, 1, 2, 9, 10, 4, 252, 254))
     start = bytes(part) + bytes([flag]) + rng.randbytes(2) + u2(order, hard)
     soft = u2(order, rng.choice((0, 1, 32767, 65535)))
-    return some(rng, [start, soft, rng.randbytes(2), rng.randbytes(2), rng.randbytes(4), text(rng), text(rng), text(rng)])
+    numbers = [rng.randbytes(2), rng.randbytes(2), rng.randbytes(4)]
+    return some(rng, [start, soft, *numbers, text(rng), text(rng), text(rng)])
 
 
 # ---- lots that are right
@@ -314,7 +315,8 @@ def gain_byte(rng, data):
 
 
 def left_over(rng, data):
-    data += rng.choice((b"\0", b"\0\0", b"\0\0\0", b"\xff\xff\xff", b"\xff\xff\x0f\x0a", b"\4\0\x0f\x0a", rng.randbytes(3)))
+    headers = (b"\xff\xff\x0f\x0a", b"\4\0\x0f\x0a")
+    data += rng.choice((b"\0", b"\0\0", b"\0\0\0", b"\xff\xff\xff", rng.randbytes(3)) + headers)
 
 
 def other_first(rng, data):

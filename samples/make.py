@@ -10,8 +10,8 @@ NAME.tally.
     damaged   final, with one bit of a part's hardware bin turned over
     cut       wafer, its end lost on the way
 
-What a lot's tally is comes from the maps below, from which the parts are made: no stream is read here. Fields are in the
-order of the STDF V4 specification; an optional end is left off where a tester leaves it off.
+What a lot's tally is comes from the maps below, from which the parts are made: no stream is read here. Fields are in
+the order of the STDF V4 specification; an optional end is left off where a tester leaves it off.
 """
 import collections
 import os
@@ -72,6 +72,10 @@ class Lot:
                 body += struct.pack(self.order + code, value)
         self.records.append(struct.pack(self.order + "HBB", len(body), *kind) + body)
 
+    def bins(self, part=None):
+        """The hardware bin of every part so far, or of those of one head and site."""
+        return [key[2] for key in sorted(self.tally.elements()) if part in (None, key[:2])]
+
     def text(self):
         rows = sorted(self.tally.items())
         return "".join("HBR:%d|%d|%d|%d\n" % (key + (count,)) for key, count in rows)
@@ -126,13 +130,12 @@ def add_counts(lot, head, site, parts, again):
 
 def add_end(lot, again):
     """The summary: tests, then counts for each site and for all, then MRR."""
-    everything = [hard for (_, _, hard), count in sorted(lot.tally.items()) for _ in range(count)]
+    everything = lot.bins()
     for number, name, *_, bin_failed in MEASURED:
         failed = everything.count(bin_failed)
         lot.add((10, 30), "BBsIIIInnn", 255, 255, "P", number, len(everything), failed, 0, name, "", "")
     for head, site in sorted({key[:2] for key in lot.tally}):
-        parts = [hard for (h, s, hard), count in sorted(lot.tally.items()) if (h, s) == (head, site) for _ in range(count)]
-        add_counts(lot, head, site, parts, 4294967295)
+        add_counts(lot, head, site, lot.bins((head, site)), 4294967295)
     add_counts(lot, 255, 255, everything, again)
     lot.add((1, 20), "Isnn", BEGAN + 14050, "H", "Handler problems", "Yield Alarm")
 
@@ -146,7 +149,8 @@ def wafer_lot():
     lot.add((1, 60), "HHnnnBB", 1, 0, "CH4", "PIN4", "VDD", 1, 0)
     lot.add((2, 30), "fffBshhss", 150.0, 5.1, 4.8, 3, "D", 3, 3, "R", "D")
     lot.add((2, 10), "BBIn", 1, 255, BEGAN, "W01")
-    dies = [(x, y, int(die)) for y, row in enumerate(WAFER.split("\n")[1:-1]) for x, die in enumerate(row.split()) if die != "."]
+    rows = [row.split() for row in WAFER.split("\n")[1:-1]]
+    dies = [(x, y, int(die)) for y, row in enumerate(rows) for x, die in enumerate(row) if die != "."]
     for at in range(0, len(dies), 4):
         touched = list(enumerate(dies[at:at + 4]))
         for site, _ in touched:
@@ -156,7 +160,8 @@ def wafer_lot():
         for site, (x, y, hard) in touched:
             add_result(lot, (1, site), hard, x, y, "W01-%02d" % (at + site + 1), 0)
     good = sum(die[2] == 1 for die in dies)
-    lot.add((2, 20), "BBIIIIIInnn", 1, 255, BEGAN + 9580, len(dies), 4294967295, 0, good, 4294967295, "W01", "131", "F54")
+    counts = (len(dies), 4294967295, 0, good, 4294967295)
+    lot.add((2, 20), "BBIIIIIInnn", 1, 255, BEGAN + 9580, *counts, "W01", "131", "F54")
     add_end(lot, 0)
     return lot
 
@@ -185,7 +190,7 @@ def final_lot():
 
 
 def damaged():
-    """The tenth part's hardware bin, which begins at byte 9 of its PRR, has its highest bit turned over: no such bin."""
+    """The tenth part's hardware bin, at byte 9 of its PRR, has its highest bit turned over: there is no such bin."""
     lot = final_lot()
     at = [i for i, rec in enumerate(lot.records) if rec[2:4] == bytes((5, 20))][9]
     rec = lot.records[at]
