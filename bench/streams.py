@@ -16,8 +16,9 @@ FREE = [(1, 60), (1, 62), (1, 63), (2, 10), (2, 20), (2, 30), (10, 30), (15, 10)
         (20, 20), (50, 10), (50, 30), (201, 0), (255, 255), (0, 201), (50, 201), (1, 255), (15, 240)]
 READ = [MIR, MRR, PCR, HBR, SBR, PIR, PRR]
 # pairs beside the borders of known, custom and unknown
-EDGES = FREE + READ + [ATR, RDR, SDR, (0, 10), (0, 200), (1, 200), (3, 201), (3, 10), (180, 10), (180, 201), (181, 0),
-                       (200, 0), (200, 255), (0, 30), (1, 90), (5, 30), (10, 10), (15, 30), (20, 200), (50, 20), (4, 4)]
+EDGES = FREE + READ + [ATR, RDR, SDR, (0, 10), (3, 201), (3, 10), (180, 10), (180, 201), (181, 0), (200, 0), (200, 255),
+                       (0, 30), (1, 90), (5, 30), (10, 10), (15, 30), (50, 20), (4, 4)]
+EDGES += [(typ, sub) for typ in (0, 1, 2, 5, 10, 15, 20, 50) for sub in (200, 201)]
 HEADS, SITES = (0, 1, 1, 1, 2, 2, 254), (0, 1, 1, 2, 3, 255)
 BINS = (0, 1, 1, 1, 2, 5, 6, 32767)
 BORDERS = (0, 1, 255, 256, 32767, 32768, 65534, 65535)
@@ -220,9 +221,11 @@ def over_size(rng, order, records):
 
 
 def with_body(rng, order, records, change):
-    """Changes the body of a record of a kind that is read, and its length with it."""
-    at = rng.choice([i for i, r in enumerate(records) if len(r) >= 4 and (r[2], r[3]) in READ] or [0])
-    body = change((records[at][2], records[at][3]), records[at][4:])
+    """Changes the body of a record of a kind that is read, and its length with it; each kind as often as the others."""
+    kinds = sorted({tuple(rec[2:4]) for rec in records}.intersection(READ)) or [tuple(records[0][2:4])]
+    kind = rng.choice(kinds)
+    at = rng.choice([i for i, rec in enumerate(records) if tuple(rec[2:4]) == kind])
+    body = change(kind, records[at][4:])
     records[at] = record(order, records[at][2:4], body[:65535])
 
 
@@ -235,10 +238,15 @@ def refit(rng, order, records):
 
 
 def any_body(rng, order, records):
-    """A body of any bytes, at lengths around those that its kind may have."""
-    lengths = {MIR: (15, 19, 20, 21, 22, 40), MRR: (3, 4, 5, 6, 7, 8), PCR: range(24), PIR: range(4),
+    """A body of any bytes, or one right at its start, at lengths around those that its kind may have."""
+    lengths = {MIR: (15, 19, 20, 21, 22, 40), MRR: (3, 4, 5, 6, 7, 8), PCR: range(27), PIR: range(4),
                HBR: (7, 8, 9, 10, 11, 14), SBR: (7, 8, 9, 10, 11, 14), PRR: range(24)}
-    with_body(rng, order, records, lambda pair, _: small_bytes(rng, rng.choice(lengths.get(pair, (0, 2)))))
+
+    def change(pair, body):
+        length = rng.choice(lengths.get(pair, (0, 2)))
+        kept = body[:rng.choice((0, 7, 8, 9, 17))][:length]
+        return kept + small_bytes(rng, length - len(kept))
+    with_body(rng, order, records, change)
 
 
 def small_bytes(rng, length):
