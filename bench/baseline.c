@@ -1,0 +1,164 @@
+// The tally program in C, as one would write it for speed: the same checks in the same order and the same output as
+// document 01, "Tally program", with a large read buffer, records judged where they lie, a table of open parts and a
+// small hash of rows. It is what the proved program is measured against.
+#include <stdio.h>
+#include <stdlib.h>
+#include <string.h>
+#include <unistd.h>
+
+#include "stdf.h"
+
+#ifndef READ_SIZE
+#define READ_SIZE (1 << 18)
+#endif
+
+// Four places a row, so that a search ends at once.
+enum { HASH_BITS = 12, HASH_SIZE = 1 << HASH_BITS };
+
+struct row {
+    uint32_t key; // head, site and bin from the highest bits down
+    uint32_t count; // 0: no row
+};
+
+struct lot {
+    enum place place;
+    bool pcr;
+    unsigned parts, rows;
+    uint32_t results;
+    uint64_t record; // records accepted
+    bool open[256 * 256]; // by head and site
+    struct row table[HASH_SIZE];
+};
+
+static struct lot lot;
+static uint8_t buffer[READ_SIZE + LONGEST];
+
+static _Noreturn void refuse(int number) {
+    printf("refused %d at record %llu\n", number, (unsigned long long)lot.record + 1);
+    exit(0);
+}
+
+static _Noreturn void too_long(void) {
+    printf("too long at record %llu\n", (unsigned long long)lot.record + 1);
+    exit(0);
+}
+
+static struct row *row_of(uint32_t key) {
+    uint32_t at = key * 2654435769u >> (32 - HASH_BITS);
+    while (lot.table[at].count && lot.table[at].key != key) at = (at + 1) % HASH_SIZE;
+    return &lot.table[at];
+}
+
+static inline int open_part(const uint8_t *body) {
+    unsigned part = body[0] << 8 | body[1];
+    if (lot.open[part]) return 9;
+    if (lot.parts == MOST_PARTS) return 11;
+    lot.open[part] = true;
+    lot.parts++;
+    return 0;
+}
+
+static inline int count_part(const uint8_t *body, bool high) {
+    unsigned part = body[0] << 8 | body[1];
+    if (!lot.open[part]) return 10;
+    if (lot.results == MOST_RESULTS) return 14;
+    struct row *row = row_of((uint32_t)part << 16 | u2(body + 5, high));
+    if (!row->count) {
+        if (lot.rows == MOST_ROWS) return 13;
+        row->key = (uint32_t)part << 16 | u2(body + 5, high);
+        lot.rows++;
+    }
+    row->count++;
+    lot.results++;
+    lot.open[part] = false;
+    lot.parts--;
+    return 0;
+}
+
+// One whole record after the first: 6, 8, 7, then what its kind asks.
+static inline int judge(const uint8_t *rec, size_t length, bool high) {
+    const uint8_t *body = rec + HEADER;
+    enum kind kind = kind_of(rec[2], rec[3]);
+    if (kind == UNKNOWN) return 6;
+    enum place place = next_place[lot.place][kind];
+    if (place == OUT) return 8;
+    if (!fits(kind, body, length - HEADER, high)) return 7;
+    int number = 0;
+    if (kind == PIR) number = open_part(body);
+    else if (kind == PRR) number = count_part(body, high);
+    else if (kind == MRR && (lot.parts || !lot.pcr)) number = 12;
+    else if (kind == PCR) lot.pcr = true;
+    if (!number) lot.place = place;
+    return number;
+}
+
+// Judges every whole record in the buffer from `at`, and gives the place of the first that isn't whole.
+static inline __attribute__((always_inline)) size_t judge_whole(size_t at, size_t have, bool high) {
+    while (have - at >= HEADER) {
+        size_t length = HEADER + u2(buffer + at, high);
+        if (length > LONGEST) too_long();
+        if (have - at < length) break;
+        int number = judge(buffer + at, length, high);
+        if (number) refuse(number);
+        lot.record++;
+        at += length;
+    }
+    return at;
+}
+
+static int by_key(const void *a, const void *b) {
+    uint32_t x = ((const struct row *)a)->key, y = ((const struct row *)b)->key;
+    return (x > y) - (x < y);
+}
+
+static void report(void) {
+    unsigned rows = 0;
+    for (unsigned i = 0; i < HASH_SIZE; i++)
+        if (lot.table[i].count) lot.table[rows++] = lot.table[i];
+    qsort(lot.table, rows, sizeof(struct row), by_key);
+    for (unsigned i = 0; i < rows; i++) {
+        uint32_t key = lot.table[i].key;
+        printf("HBR:%u|%u|%u|%u\n", key >> 24, key >> 16 & 255, key & 65535, lot.table[i].count);
+    }
+}
+
+static void finish(size_t left) {
+    if (left) refuse(3);
+    if (lot.place == ENDED) report();
+    else printf("unfinished after record %llu\n", (unsigned long long)lot.record);
+}
+
+static size_t read_more(size_t have) {
+    ssize_t got = read(0, buffer + have, READ_SIZE);
+    return got > 0 ? (size_t)got : 0;
+}
+
+// The rest of the stream after its FAR; `high` is known where this is inlined, so each order has its own code.
+static inline __attribute__((always_inline)) void follow(size_t have, bool high) {
+    size_t at = FIRST;
+    for (;;) {
+        at = judge_whole(at, have, high);
+        memmove(buffer, buffer + at, have - at);
+        have -= at;
+        at = 0;
+        size_t got = read_more(have);
+        if (!got) break;
+        have += got;
+    }
+    finish(have);
+}
+
+int main(void) {
+    size_t have = 0, got;
+    while (have < FIRST && (got = read_more(have))) have += got;
+    if (have) {
+        int number = judge_first(buffer, have < FIRST ? have : FIRST);
+        if (number) refuse(number);
+        lot.place = HEADED;
+        lot.record = 1;
+    }
+    if (!have) finish(0);
+    else if (buffer[4] == 1) follow(have, true);
+    else follow(have, false);
+    return 0;
+}

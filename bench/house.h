@@ -1,0 +1,43 @@
+// A house in C, in the shapes that crates/house has, passed by value as its calls take it.
+#ifndef HOUSE_H
+#define HOUSE_H
+
+#include "stdf.h"
+
+enum { SLOTS = 16 };
+
+struct session {
+    enum place place;
+    bool high, pcr;
+    uint32_t results;
+    size_t opened;
+    uint64_t parts[MOST_PARTS]; // rising
+};
+
+struct slot {
+    bool taken;
+    uint32_t floor;
+    struct session session;
+};
+
+struct house {
+    uint64_t keys[MOST_ROWS]; // slot, head, site and bin from the highest bits down, rising
+    uint64_t counts[MOST_ROWS];
+    size_t used;
+    struct slot slots[SLOTS];
+};
+
+struct answered {
+    int answer;
+    struct house house;
+};
+
+struct figures {
+    int answer;
+    uint32_t free, promised;
+};
+
+struct answered deliver(struct house house, uint32_t slot, const uint8_t *rec, size_t length);
+struct figures figures(struct house house);
+
+#endif
