@@ -94,7 +94,8 @@ fn rows_sound<'a>(
     false
 }
 
-// Whether a house is sound whose rows are lent: a call that goes on with the house copies no row to test it.
+// Whether a house is sound whose rows are lent: a call that goes on with the house copies no row to test it. And that
+// there are sixteen slots, which the array's type alone says.
 pub fn is_sound_lent<'a>(
     slots: [Slot; 16],
     keys: &'a [u64; 1024],
@@ -102,7 +103,8 @@ pub fn is_sound_lent<'a>(
     used: usize,
 ) -> bool
     requires { ⌜ (length (now keys) ≡ 1024) × (length (now counts) ≡ 1024) ⌝ }
-    ensures { λ r. ⌜ r ≡ sound (houseOf (now (keys .entry)) (now (counts .entry)) used slots) ⌝ }
+    ensures { λ r. ⌜ (r ≡ sound (houseOf (now (keys .entry)) (now (counts .entry)) used slots))
+        × (length slots ≡ 16) ⌝ }
 {
     if 1024 < used {
         return false;

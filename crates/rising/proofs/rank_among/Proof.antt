@@ -43,17 +43,19 @@ returns-2 : tie.Need-returns-2 Inv-loop μ-loop
 returns-2 c =
     let turn = c .before .before .before in
     let start = turn .before .before in
-    omega
-    (arith,
-    kept-up _ _ (start .args .key) (start .pre .1) (start .pre .2) (turn .loop .at) (omega arith) (omega arith))
+    omega (
+      arith,
+      kept-up _ _ (start .args .key) (start .pre .1) (start .pre .2) (turn .loop .at) (omega arith) (omega arith),
+    )
 
 returns-3 : tie.Need-returns-3 Inv-loop μ-loop
 returns-3 c =
     let turn = c .before .before .before in
     let start = turn .before .before in
-    omega
-    (arith,
-    kept-down _ _ (start .args .key) (start .pre .1) (start .pre .2) (turn .loop .at) (omega arith) (omega arith))
+    omega (
+      arith,
+      kept-down _ _ (start .args .key) (start .pre .1) (start .pre .2) (turn .loop .at) (omega arith) (omega arith),
+    )
 
 -- ---- found by search
 

@@ -5,6 +5,7 @@ use mathlib.Core.Bool.{Bool, true}
 use mathlib.Core.List.{List}
 use Prim.Native.Nat.{ℕ, _-_}
 use lib.Dec.{leb}
+use lib.ListN.{length}
 use denote.Ref.{now}
 use borrow.Author.Needs.{needs}
 use borrow.Author.Tests.{not-true, not-false}
@@ -17,6 +18,9 @@ use Rattle.core.proofs.sound.is_sound_lent.Tie as tie
 -- the house that is tested
 abbrev tested : tie.Start → House
 tested c = houseOf (now (c .args .keys)) (now (c .args .counts)) (c .args .used) (c .args .slots)
+
+many : (c : tie.Start) → length (c .args .slots) ≡ 16
+many c = search needs
 
 -- what the test of the rows answers is what `rowsSound` says
 rows-told : (c : tie.After-rows-sound)
@@ -44,12 +48,16 @@ slots : (c : tie.Else3)
 slots c = sym (c .before .slots-sound .ensures) ∙ not-false _ (c .if3 .left)
 
 returns : tie.Need-returns
-returns c = sym (sound-many (tested (c .before)) (c .if1 .taken))
+returns c = (sym (sound-many (tested (c .before)) (c .if1 .taken)), many (c .before))
 
 returns-2 : tie.Need-returns-2
 returns-2 c =
-    let few = c .before .before .before in
-    sym (sound-rows (tested (few .before)) (few .if1 .left) (sym (rows-told (c .before)) ∙ not-true _ (c .if2 .taken)))
+    let few = c .before .before .before in (
+      sym
+          (sound-rows (tested (few .before)) (few .if1 .left)
+          (sym (rows-told (c .before)) ∙ not-true _ (c .if2 .taken))),
+      many (few .before),
+    )
 
 slots-sound-requires : tie.Need-slots-sound-requires
 slots-sound-requires c κs = lent c
@@ -57,10 +65,12 @@ slots-sound-requires c κs = lent c
 returns-3 : tie.Need-returns-3
 returns-3 c =
     let fine = c .before .before in
-    let few = fine .before .before .before in
-    sym
-    (sound-slots (tested (few .before)) (few .if1 .left) (rows fine)
-    (sym (c .before .slots-sound .ensures) ∙ not-true _ (c .if3 .taken)))
+    let few = fine .before .before .before in (
+      sym
+          (sound-slots (tested (few .before)) (few .if1 .left) (rows fine)
+          (sym (c .before .slots-sound .ensures) ∙ not-true _ (c .if3 .taken))),
+      many (few .before),
+    )
 
 promised-of-requires : tie.Need-promised-of-requires
 promised-of-requires c κs =
@@ -73,9 +83,11 @@ returns-4 c =
     let right = c .before in
     let fine = right .before .before in
     let few = fine .before .before .before in
-    let h = tested (few .before) in
-    ap (λ (n : ℕ). leb n (1024 - h .used)) (c .promised-of .ensures .0)
-    ∙ sym (sound-rooms h (few .if1 .left) (rows fine) (slots right))
+    let h = tested (few .before) in (
+      ap (λ (n : ℕ). leb n (1024 - h .used)) (c .promised-of .ensures .0)
+          ∙ sym (sound-rooms h (few .if1 .left) (rows fine) (slots right)),
+      c .promised-of .ensures .2,
+    )
 
 -- ---- found by search
 
