@@ -5,6 +5,7 @@ mod reports;
 use answers::Answer;
 use core::deliver_lent;
 use core::is_sound;
+use core::is_sound_lent;
 use core::promised_of;
 use core::unfilled_of;
 use house::Answered;
@@ -16,11 +17,15 @@ pub use reports::judge_report;
 pub use reports::report;
 pub use reports::row_at;
 use session::Session;
+use session::Verdict;
+use session::judge_lent;
+use session::settle;
 ghost use mathlib.Core.Path.{_≡_};
 ghost use mathlib.Core.Bool.{true};
 ghost use Prim.Native.Nat.{_≤_, _<_};
 ghost use lib.ListN.{length};
 ghost use Rattle.house.specs.House.{sound, promised};
+ghost use Rattle.house.specs.Deliver.{wantsRow, plainAnswer};
 ghost use Rattle.house.specs.Calls.{openSlot, closeSlot, deliver, figuresOf};
 ghost use Rattle.house.specs.Calls.{answered, slotAt, roomOf, deliveredTo, withOutcome};
 
@@ -132,13 +137,14 @@ fn room_of(house: House, i: usize, s: Slot) -> Room
 pub fn deliver(house: House, slot: u32, rec: &[u8]) -> Answered
     ensures { λ r. ⌜ r ≡ deliver house slot (now (rec .entry)) ⌝ }
 {
-    if !is_sound(house) {
-        return answer_with(Answer::NotSound, house);
+    let h = house;
+    let slots = h.slots;
+    if !is_sound_lent(slots, &h.keys, &h.counts, h.used) {
+        return answer_with(Answer::NotSound, h);
     }
     if 16 <= slot {
-        return answer_with(Answer::NoSuchSlot, house);
+        return answer_with(Answer::NoSuchSlot, h);
     }
-    let h = house;
     let i = slot as usize;
     let s = h.slots[i];
     if !s.taken {
@@ -147,8 +153,51 @@ pub fn deliver(house: House, slot: u32, rec: &[u8]) -> Answered
     deliver_to(h, i, s, rec)
 }
 
-// .. to an open slot of a sound house. The rows and the parts are lent, and laid back.
+fn wants_row(verdict: Verdict) -> bool
+    ensures { λ r. ⌜ r ≡ wantsRow verdict ⌝ }
+{
+    match verdict {
+        Verdict::Refused(_) => false,
+        Verdict::Taken(_) => false,
+        Verdict::Opened(_, _, _) => false,
+        Verdict::Wanted(_, _, _) => true,
+    }
+}
+
+fn plain_answer(verdict: Verdict) -> Answer
+    ensures { λ r. ⌜ r ≡ plainAnswer verdict ⌝ }
+{
+    match verdict {
+        Verdict::Refused(answer) => answer,
+        Verdict::Taken(_) => Answer::Done,
+        Verdict::Opened(_, _, _) => Answer::Done,
+        Verdict::Wanted(_, _, _) => Answer::Done,
+    }
+}
+
+// .. to an open slot of a sound house. A record that asks for no row is settled in the slot, and no row is touched.
 fn deliver_to(house: House, i: usize, s: Slot, rec: &[u8]) -> Answered
+    requires { ⌜ (sound house ≡ true) × (i < 16) × (s ≡ slotAt house i) × (s .taken ≡ true) × (length (house .slots) ≡ 16) ⌝ }
+    ensures { λ r. ⌜ r ≡ withOutcome house i (deliveredTo house i (now (rec .entry))) ⌝ }
+{
+    let mut h = house;
+    let session = s.session;
+    let parts = session.parts;
+    let verdict = judge_lent(session.standing, &parts, rec);
+    if wants_row(verdict) {
+        return deliver_rows(h, i, s, rec);
+    }
+    let next = settle(session, verdict);
+    h.slots[i] = Slot {
+        taken: s.taken,
+        floor: s.floor,
+        session: next,
+    };
+    answer_with(plain_answer(verdict), h)
+}
+
+// .. where rows are asked for: the rows and the parts are lent, and laid back.
+fn deliver_rows(house: House, i: usize, s: Slot, rec: &[u8]) -> Answered
     requires { ⌜ (sound house ≡ true) × (i < 16) × (s ≡ slotAt house i) × (s .taken ≡ true) ⌝ }
     ensures { λ r. ⌜ r ≡ withOutcome house i (deliveredTo house i (now (rec .entry))) ⌝ }
 {

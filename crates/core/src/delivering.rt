@@ -7,7 +7,7 @@ use house::Granting;
 use house::Room;
 use rising::holds;
 use rising::insert;
-use rising::rank_of;
+use rising::rank_among;
 use rising::remove;
 use rows::count_row;
 use rows::held_by;
@@ -51,7 +51,7 @@ fn take_row(keys: &mut [u64], counts: &mut [u64], used: usize, room: Room, key: 
     ensures { λ r. ⌜ rowed (now (keys .exit)) (now (counts .exit)) r
         ≡ rowTaken room (now (keys .entry)) (now (counts .entry)) used key ⌝ }
 {
-    let at = rank_of(keys, used, key);
+    let at = rank_among(keys, used, 1024, key);
     if is_granted(keys, used, room, at, key) {
         Granting::Rows(count_row(keys, counts, used, at, key))
     } else {

@@ -8,3 +8,4 @@ pub use delivering::deliver_lent;
 pub use rooms::promised_of;
 pub use rooms::unfilled_of;
 pub use sound::is_sound;
+pub use sound::is_sound_lent;

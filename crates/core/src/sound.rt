@@ -7,7 +7,7 @@ ghost use mathlib.Core.Bool.{true};
 ghost use mathlib.Core.List.{map};
 ghost use Prim.Native.Nat.{_≤_, _<_};
 ghost use lib.ListN.{length, take};
-ghost use Rattle.house.specs.House.{takenOf, slotSound, slotsSound, rowsSound, sound, Lent};
+ghost use Rattle.house.specs.House.{takenOf, slotSound, slotsSound, rowsSound, sound, houseOf, Lent};
 
 // A number of accepted PRRs, with the range that its type has: the definition names it, and no proof sees a type.
 fn ranged(results: u32) -> u32
@@ -94,21 +94,36 @@ fn rows_sound<'a>(
     false
 }
 
+// Whether a house is sound whose rows are lent: a call that goes on with the house copies no row to test it. And that
+// there are sixteen slots, which the array's type alone says.
+pub fn is_sound_lent<'a>(
+    slots: [Slot; 16],
+    keys: &'a [u64; 1024],
+    counts: &'a [u64; 1024],
+    used: usize,
+) -> bool
+    requires { ⌜ (length (now keys) ≡ 1024) × (length (now counts) ≡ 1024) ⌝ }
+    ensures { λ r. ⌜ (r ≡ sound (houseOf (now (keys .entry)) (now (counts .entry)) used slots))
+        × (length slots ≡ 16) ⌝ }
+{
+    if 1024 < used {
+        return false;
+    }
+    if !rows_sound(taken_of(slots), keys, counts, used) {
+        return false;
+    }
+    if !slots_sound(slots, keys, counts, used) {
+        return false;
+    }
+    let promised = promised_of(slots, keys, used);
+    promised as usize <= 1024 - used
+}
+
 pub fn is_sound(house: House) -> bool
     ensures { λ r. ⌜ r ≡ sound house ⌝ }
 {
     let h = house;
-    let used = h.used;
     let slots = h.slots;
-    if 1024 < used {
-        return false;
-    }
-    if !rows_sound(taken_of(slots), &h.keys, &h.counts, used) {
-        return false;
-    }
-    if !slots_sound(slots, &h.keys, &h.counts, used) {
-        return false;
-    }
-    let promised = promised_of(slots, &h.keys, used);
-    promised as usize <= 1024 - used
+    let used = h.used;
+    is_sound_lent(slots, &h.keys, &h.counts, used)
 }

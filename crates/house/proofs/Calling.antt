@@ -12,6 +12,7 @@ use lib.Dec.{leb, ltb, eqb}
 use lib.ListN.{length, getD, take, set, List·getD-map}
 use lib.Seq.{length-take-le}
 use Rattle.words.proofs.Both.{both-left, both-right}
+use Rattle.answers.specs.declared.Answer.{Answer}
 use Rattle.answers.specs.declared.Answer.the-variants as answer
 use Rattle.rising.specs.Rising.{rising, allBelow}
 use Rattle.rows.specs.Rows.{slotCount, mostHead, mostBin, slotOf, headOf, binOf, heldBy, sumBy, rowRight, rowsRight}
@@ -19,6 +20,9 @@ use Rattle.rows.specs.Rows.{slotDropped, Rows, rows}
 use Rattle.rows.proofs.Laws.{count-within, row-taken}
 use Rattle.session.specs.Session as session
 use Rattle.session.specs.Session.{mostResults}
+use Rattle.session.specs.declared.Session.{Session}
+use Rattle.session.specs.declared.Verdict.{Verdict}
+use Rattle.session.specs.After.{after, verdictOn}
 use Rattle.session.proofs.Judgement.{sound-kept}
 use Rattle.house.specs.declared.Slot.{Slot}
 use Rattle.house.specs.declared.House.{House}
@@ -28,10 +32,12 @@ use Rattle.house.specs.declared.Figures.{Figures}
 use Rattle.house.specs.House.{rowCount, noSlot, closedSlot, openedSlot, keysOf, countsOf, free, unfilled}
 use Rattle.house.specs.House.{promisedFrom}
 use Rattle.house.specs.House.{promised, takenOf, rowsSound, slotSound, slotsSound, sound, Lent}
-use Rattle.house.specs.Deliver.{Outcome, core, delivered, pastCounts, LentRows, LentCore}
+use Rattle.house.specs.Deliver.{Outcome, core, settled, delivered, wantsRow, plainAnswer, pastCounts, LentRows}
+use Rattle.house.specs.Deliver.{LentCore}
 use Rattle.house.specs.Calls.{slotAt, withSlot, answered, openSlot, closed, closeSlot, roomOf, deliveredTo}
 use Rattle.house.specs.Calls.{withOutcome, deliver, figuresOf}
 use Rattle.house.proofs.Laws.{lent-of}
+use Rattle.house.proofs.Delivering.{settled-plain}
 
 -- ---- what soundness tells
 
@@ -292,6 +298,15 @@ module _ (h : House) (slot : ℕ) (s : Slot) (is : s ≡ slotAt h slot) where
   room-is all own a o = rw (a, o, is)
 
 -- an open slot of a sound house lends its session and all rows
+-- an open slot's session is sound
+pub open-session : (h : House) (slot : ℕ) → sound h ≡ true → length (h .slots) ≡ slotCount → slot < slotCount
+    → slotAt h slot .taken ≡ true
+    → session.sound (slotAt h slot .session) ≡ true
+open-session h slot e slots-long inside t =
+    open-told slot (slotAt h slot) (keysOf h) (countsOf h) t
+    (rw (zero-add slot) at (slots-at 0 (h .slots) (keysOf h) (countsOf h) slot noSlot (told-slots h e)
+    (omega arith))) .session
+
 pub lent-core : (h : House) (slot : ℕ) → sound h ≡ true → length (h .keys) ≡ rowCount → length (h .counts) ≡ rowCount
     → length (h .slots) ≡ slotCount → slot < slotCount → slotAt h slot .taken ≡ true
     → length (slotAt h slot .session .parts) ≡ 32
@@ -347,3 +362,20 @@ module _ (h : House) (slot : ℕ) {s : Slot} {room : Room} (is : s ≡ slotAt h 
   laid-back rec o did =
       let done : o ≡ deliveredTo h slot rec = did ∙ rw (seen, is) in
       rw (← done, is)
+
+-- .. and so is a session that no row was asked for
+pub laid-plain : (h : House) (slot : ℕ) (rec : List ℕ) (v : Verdict) (s : Slot) (next : Session) (a : Answer)
+    → s ≡ slotAt h slot → v ≡ verdictOn (s .session) rec → wantsRow v ≡ false → next ≡ after (s .session) v
+    → a ≡ plainAnswer v
+    → answered a (withSlot h slot (record { taken = s .taken; floor = s .floor; session = next }))
+    ≡ withOutcome h slot (deliveredTo h slot rec)
+unfolding delivered
+laid-plain h slot rec v s next a is said plain then told =
+    let judged : v ≡ verdictOn (slotAt h slot .session) rec = rw (← is) said in
+    rw (
+      told,
+      then,
+      is,
+      ← judged,
+      settled-plain (roomOf h slot) (h .keys) (h .counts) (h .used) (slotAt h slot .session) v plain,
+    )

@@ -1,7 +1,7 @@
 -- Laws of a delivery over lent rows, as the functions' proofs cite them.
 -- Assumes nothing.
 use mathlib.Core.Path.{_≡_, refl, ap, sym, subst, _∙_}
-use mathlib.Core.Bool.{Bool, true, false, cond, _||_}
+use mathlib.Core.Bool.{Bool, true, false, cond, _||_, true≢false}
 use mathlib.Core.List.{List, [], _∷_}
 use Prim.Native.Nat.{ℕ, zero, suc, _+_, _-_, _≤_, _<_}
 use native.Mathlib.Omega.{arith}
@@ -15,16 +15,18 @@ use Rattle.answers.specs.declared.Answer.the-variants as answer
 use Rattle.rising.specs.Rising.{rising, rank, held, allBelow}
 use Rattle.rising.proofs.Laws.{held-rank}
 use Rattle.rows.specs.Rows.{heldBy, rowKey, Rows, rows, counted, Countable}
+use Rattle.session.specs.declared.Session.{Session}
 use Rattle.session.specs.declared.Standing.{Standing}
+use Rattle.session.specs.declared.Verdict.{Verdict}
 use Rattle.session.specs.declared.Verdict.the-variants.{Refused, Taken, Opened, Wanted}
 use Rattle.session.specs.Judge.{judge}
-use Rattle.session.specs.After.{partOpened, partClosed}
+use Rattle.session.specs.After.{partOpened, partClosed, after}
 use Rattle.house.specs.declared.Room.{Room}
 use Rattle.house.specs.declared.Granting.{Granting}
 use Rattle.house.specs.declared.Granting.the-variants as granting
 use Rattle.house.specs.House.{rowCount, Lent}
 use Rattle.house.specs.Deliver.{granted, rowed, rowTaken, core, outcome, resulted, resultedIf, settled, delivered}
-use Rattle.house.specs.Deliver.{pastCounts, LentRows, LentCore}
+use Rattle.house.specs.Deliver.{wantsRow, plainAnswer, pastCounts, LentRows, LentCore}
 use Rattle.house.proofs.Laws.{lent-kept}
 
 -- ---- the grant rules
@@ -148,3 +150,13 @@ module _ (room : Room) (keys counts : List ℕ) (used : ℕ) (st : Standing) (pa
         → resultedIf room keys counts used st parts next at key ≡ delivered room (core keys counts used st parts) rec
     unfolding delivered settled
     delivered-wanted at key e = rw e
+
+-- a verdict that asks for no row changes the session alone
+pub settled-plain : (room : Room) (keys counts : List ℕ) (used : ℕ) (s : Session) (v : Verdict) → wantsRow v ≡ false
+    → settled room (core keys counts used (s .standing) (s .parts)) v
+    ≡ outcome (plainAnswer v) keys counts used (after s v .standing) (after s v .parts)
+unfolding settled after
+settled-plain room keys counts used s (Refused a) e = refl
+settled-plain room keys counts used s (Taken next) e = refl
+settled-plain room keys counts used s (Opened next rank part) e = refl
+settled-plain room keys counts used s (Wanted next rank key) e = absurd (true≢false e)

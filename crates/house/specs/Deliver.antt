@@ -6,7 +6,7 @@
 --   delivered   the answer and the core after a record
 -- Assumes nothing.
 use mathlib.Core.Path.{_≡_}
-use mathlib.Core.Bool.{Bool, true, cond, _||_}
+use mathlib.Core.Bool.{Bool, true, false, cond, _||_}
 use mathlib.Core.List.{List}
 use Prim.Native.Nat.{ℕ, _+_, _-_, _≤_, _<_}
 use lib.Dec.{ltb}
@@ -94,6 +94,22 @@ settled room c (Wanted next rank key) =
 
 unfoldable pub delivered : Room → Core → List ℕ → Outcome
 delivered room c rec = settled room c (judge (c .standing) (take (c .standing .opened) (c .parts)) rec)
+
+-- ---- a verdict that asks for no row
+
+-- only a part result asks for one: any other record leaves the rows alone
+abbrev pub wantsRow : Verdict → Bool
+wantsRow (Refused a) = false
+wantsRow (Taken next) = false
+wantsRow (Opened next rank part) = false
+wantsRow (Wanted next rank key) = true
+
+-- .. and its answer is told by the verdict
+abbrev pub plainAnswer : Verdict → Answer
+plainAnswer (Refused a) = a
+plainAnswer (Taken next) = Done
+plainAnswer (Opened next rank part) = Done
+plainAnswer (Wanted next rank key) = Done
 
 -- ---- what is lent
 

@@ -115,3 +115,7 @@ pub record Lent (keys counts : List ℕ) (used : ℕ) : Type 0 where
   pub paired : length counts ≡ rowCount
   pub within : used ≤ rowCount
   pub rises : rising (take used keys) ≡ true
+
+-- a house whose rows are lent and whose slots are handed in
+abbrev pub houseOf : List ℕ → List ℕ → ℕ → List Slot → House
+houseOf keys counts used slots = record { keys = keys; counts = counts; used = used; slots = slots }

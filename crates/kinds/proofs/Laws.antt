@@ -4,9 +4,11 @@
 use mathlib.Core.Path.{_≡_, refl, sym, ap, _∙_}
 use mathlib.Core.Bool.{Bool, true, false, _&&_}
 use mathlib.Core.List.{List, [], _∷_, map}
-use Prim.Native.Nat.{ℕ, _≤_, _<_, _+_}
+use Prim.Native.Nat.{ℕ, _≤_, _<_, _+_, _*_}
 use native.Mathlib.Numerals.{add-one}
-use borrow.Author.Tests.{eq-eqb, ne-eqb, lt-ltb, le-ltb}
+use native.Mathlib.Omega.{arith}
+use borrow.Author.Tests.{eq-eqb, ne-eqb, eqb-true, lt-ltb, le-ltb}
+use lib.Dec.{eqb}
 use lib.ListN.{length, drop, getD, drop-of-length-le, List·getD-map}
 use lib.Seq.{drop-cons}
 use Rattle.words.proofs.Table.{at-each}
@@ -28,9 +30,13 @@ each-pair-its-kind = at-each Pair Kind (λ p. kindOf (p .0) (p .1)) (λ p. p .2)
 
 -- ---- a search through any table
 
-and-false : (b : Bool) → (b && false) ≡ false
-and-false true = refl
-and-false false = refl
+-- two pairs whose codes differ are not the same pair
+other-pair : (a b typ sub : ℕ) → (a * 256 + b ≡ typ * 256 + sub → ⊥) → (eqb a typ && eqb b sub) ≡ false
+other-pair a b typ sub ne = go (eqb a typ) refl
+  where
+    go : (t : Bool) → eqb a typ ≡ t → (t && eqb b sub) ≡ false
+    go true e = ne-eqb b sub (λ same. ne (rw (eqb-true a typ e, same) refl))
+    go false e = refl
 
 module _ (ps : List Pair) (typ : ℕ) where
   pub type-none : (i : ℕ) → length ps ≤ i → hasType (drop i ps) typ ≡ false
@@ -52,20 +58,20 @@ module _ (ps : List Pair) (typ sub : ℕ) (other : Kind) where
   named-none i h = rw (drop-of-length-le ps h)
 
   module _ (i : ℕ) (h : i < length ps) where
-    pub named-here : getD ps i noPair .0 ≡ typ → getD ps i noPair .1 ≡ sub
+    pub named-here : getD ps i noPair .1 < 256 → sub < 256
+        → getD ps i noPair .0 * 256 + getD ps i noPair .1 ≡ typ * 256 + sub
         → named (drop i ps) typ sub other ≡ getD ps i noPair .2
     unfolding named
-    named-here a b = rw (drop-cons ps i noPair h, eq-eqb _ _ a, eq-eqb _ _ b)
+    named-here low low-sub e =
+        let p = getD ps i noPair in
+        rw (drop-cons ps i noPair h, eq-eqb (p .0) typ (omega arith), eq-eqb (p .1) sub (omega arith))
 
-    pub named-on-type : (getD ps i noPair .0 ≡ typ → ⊥)
+    pub named-on : (getD ps i noPair .0 * 256 + getD ps i noPair .1 ≡ typ * 256 + sub → ⊥)
         → named (drop i ps) typ sub other ≡ named (drop (i + 1) ps) typ sub other
     unfolding named
-    named-on-type a = rw (drop-cons ps i noPair h, ne-eqb _ _ a, add-one i)
-
-    pub named-on-sub : (getD ps i noPair .1 ≡ sub → ⊥)
-        → named (drop i ps) typ sub other ≡ named (drop (i + 1) ps) typ sub other
-    unfolding named
-    named-on-sub b = rw (drop-cons ps i noPair h, ne-eqb _ _ b, and-false, add-one i)
+    named-on ne =
+        let p = getD ps i noPair in
+        rw (drop-cons ps i noPair h, other-pair (p .0) (p .1) typ sub ne, add-one i)
 
 -- ---- beyond the table
 

@@ -1,6 +1,6 @@
 // Which kind of record a type and a subtype name: document 01, "Record frame and kinds".
 ghost use mathlib.Core.Path.{_≡_};
-ghost use Prim.Native.Nat.{_<_};
+ghost use Prim.Native.Nat.{_+_, _*_, _<_};
 ghost use lib.ListN.{getD};
 ghost use Rattle.kinds.specs.Kinds.{pairs, noPair, hasType, beyondTable, kindOf, known};
 
@@ -113,22 +113,37 @@ fn beyond(typ: u8, sub: u8) -> Kind
     }
 }
 
-// The kind that a type and a subtype name.
-pub fn kind_of(typ: u8, sub: u8) -> Kind
+// A type and a subtype as one number: one comparison tells two pairs apart.
+fn code_of(typ: u8, sub: u8) -> u32
+    ensures { λ r. ⌜ (r ≡ typ * 256 + sub) × (sub < 256) ⌝ }
+{
+    typ as u32 * 256 + sub as u32
+}
+
+// The kind that the table gives a type and a subtype. The table is handed in: a constant that is named in a loop is laid
+// out anew at each turn.
+fn searched(table: [Pair; PAIR_COUNT], typ: u8, sub: u8) -> Kind
+    requires { ⌜ table ≡ pairs ⌝ }
     ensures { λ r. ⌜ r ≡ kindOf typ sub ⌝ }
 {
+    let code = code_of(typ, sub);
     let mut i: usize = 0;
     while i < PAIR_COUNT {
-        let p = entry(i);
+        let p = table[i];
         let k = p.2;
-        if p.0 == typ {
-            if p.1 == sub {
-                return k;
-            }
+        if code_of(p.0, p.1) == code {
+            return k;
         }
         i += 1;
     }
     beyond(typ, sub)
+}
+
+// The kind that a type and a subtype name.
+pub fn kind_of(typ: u8, sub: u8) -> Kind
+    ensures { λ r. ⌜ r ≡ kindOf typ sub ⌝ }
+{
+    searched(PAIRS, typ, sub)
 }
 
 // Whether a kind is known; where it is not, the refusal is 6.

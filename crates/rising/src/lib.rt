@@ -42,6 +42,29 @@ pub fn rank_of(s: &[u64], used: usize, key: u64) -> usize
     lo
 }
 
+// The rank of `key`, as rank_of has it, in a list of at most `most` elements. How many turns it takes depends on `most`
+// alone, and an element only tells where the next one is read: with a constant there is no branch to be foreseen.
+pub fn rank_among(s: &[u64], used: usize, most: usize, key: u64) -> usize
+    requires { ⌜ (used ≤ most) × (used ≤ length (now s)) × (rising (take used (now s)) ≡ true) ⌝ }
+    ensures { λ r. ⌜ r ≡ rank key (take used (now (s .entry))) ⌝ }
+{
+    if used == 0 {
+        return 0;
+    }
+    let mut at: usize = 0;
+    let mut n = used;
+    let mut width = most;
+    while width > 1 {
+        let half = n / 2;
+        if s[at + half] < key {
+            at += half;
+        }
+        n -= half;
+        width -= width / 2;
+    }
+    if s[at] < key { at + 1 } else { at }
+}
+
 // Whether the list holds `key`, whose rank is `at`.
 pub fn holds(s: &[u64], used: usize, at: usize, key: u64) -> bool
     requires { ⌜ (used ≤ length (now s)) × (rising (take used (now s)) ≡ true) × (at ≡ rank key (take used (now s))) ⌝ }

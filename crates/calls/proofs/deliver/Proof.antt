@@ -9,13 +9,15 @@ use Rattle.house.proofs.Calling.{deliver-unsound, deliver-no-slot, deliver-shut
 use Rattle.calls.proofs.deliver.Statement.{statement}
 use Rattle.calls.proofs.deliver.Tie as tie
 
-sounded : (c : tie.Else1) → sound (c .before .before .before .args .house) ≡ true
-sounded c = sym (c .before .is-sound .ensures) ∙ not-false _ (c .if1 .left)
+sounded : (c : tie.Else1) → (let start = c .before .before .before .before .before .before .before in
+    sound (start .args .house) ≡ true)
+sounded c = sym (c .before .is-sound-lent .ensures .0) ∙ not-false _ (c .if1 .left)
 
 returns : tie.Need-returns
 returns c =
+    let tested = c .before .before in
     c .answer-with .ensures
-    ∙ sym (deliver-unsound _ _ _ (sym (c .before .before .is-sound .ensures) ∙ not-true _ (c .before .if1 .taken)))
+    ∙ sym (deliver-unsound _ _ _ (sym (tested .is-sound-lent .ensures .0) ∙ not-true _ (c .before .if1 .taken)))
 
 returns-2 : tie.Need-returns-2
 returns-2 c =
@@ -23,14 +25,15 @@ returns-2 c =
 
 returns-3 : tie.Need-returns-3
 returns-3 c =
+    let inside = c .before .before .before .before in
     c .answer-with3 .ensures
-    ∙ sym (deliver-shut _ _ _ (sounded (c .before .before .before .before .before))
-    (c .before .before .before .before .if2 .left) (not-true _ (c .before .if3 .taken)))
+    ∙ sym (deliver-shut _ _ _ (sounded (inside .before)) (inside .if2 .left) (not-true _ (c .before .if3 .taken)))
 
 deliver-to-requires : tie.Need-deliver-to-requires
 deliver-to-requires c κs =
     let inside = c .before .before .before in
-    (sounded (inside .before), inside .if2 .left, refl, not-false _ (c .if3 .left))
+    let fine = inside .before in
+    (sounded fine, inside .if2 .left, refl, not-false _ (c .if3 .left), fine .before .is-sound-lent .ensures .1)
 
 returns-4 : tie.Need-returns-4
 returns-4 c =
@@ -41,8 +44,8 @@ returns-4 c =
 
 -- ---- found by search
 
-is-sound-requires : tie.Need-is-sound-requires
-is-sound-requires c κs = search needs
+is-sound-lent-requires : tie.Need-is-sound-lent-requires
+is-sound-lent-requires c κs = search needs
 
 answer-with-requires : tie.Need-answer-with-requires
 answer-with-requires c κs = search needs
@@ -63,7 +66,7 @@ pub deliver-spec : {M : Type 1} → statement M
 deliver-spec =
     tie.close
     (tie.spec
-    is-sound-requires
+    is-sound-lent-requires
     answer-with-requires
     returns
     answer-with-requires-2

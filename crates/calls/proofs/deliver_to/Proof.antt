@@ -1,59 +1,79 @@
--- `calls::deliver_to` meets its contract: an open slot of a sound house lends its session and all rows, and
--- takes them back.
+-- `calls::deliver_to` meets its contract: a verdict that asks for no row changes the session of its slot alone.
 -- Assumes nothing.
-use mathlib.Core.Path.{_≡_, _∙_}
+use mathlib.Core.Path.{_≡_, ap, sym, subst, _∙_}
+use mathlib.Core.Bool.{true}
 use lib.ListN.{length}
 use denote.Ref.{now}
 use borrow.Author.Needs.{needs}
-use Rattle.house.proofs.Calling.{lent-to, laid-back}
+use Rattle.session.specs.Session.{Kept}
+use Rattle.session.specs.Session as session
+use Rattle.session.specs.Laws.{Within}
+use Rattle.session.proofs.Judgement.{sound-parts-told, sound-kept, judged-within}
+use Rattle.house.specs.declared.Slot.{Slot}
+use Rattle.house.proofs.Calling.{open-session, laid-plain}
 use Rattle.calls.proofs.deliver_to.Statement.{statement}
 use Rattle.calls.proofs.deliver_to.Tie as tie
 
 cells : (c : tie.Start) → length (c .args .s .session .parts) ≡ 32
 cells c = search needs
 
-paired : (c : tie.Start) → length (c .args .house .counts) ≡ 1024
-paired c = search needs
+sounded : (c : tie.Start) → session.sound (c .args .s .session) ≡ true
+sounded c =
+    rw (c .pre .2)
+    (open-session (c .args .house) (c .args .i) (c .pre .0) (c .pre .4) (c .pre .1)
+    (ap (λ (x : Slot). x .taken) (sym (c .pre .2)) ∙ c .pre .3))
 
-long : (c : tie.Start) → length (c .args .house .keys) ≡ 1024
-long c = search needs
+kept : (c : tie.Start) → Kept (c .args .s .session .standing) (c .args .s .session .parts)
+kept c = sound-kept (c .args .s .session) (cells c) (sounded c)
 
-deliver-lent-requires : tie.Need-deliver-lent-requires
-deliver-lent-requires c κs =
-    let start = c .before .before .before .before .before .before .before .before .before .before in
-    let room = c .before .before .before .before .before .before .before .before .room-of .ensures in
-    lent-to (start .args .house) (start .args .i) (start .pre .2) (room .0) (start .pre .0) (long start) (paired start)
-    (room .1) (start .pre .1) (start .pre .3) (cells start)
+judge-lent-requires : tie.Need-judge-lent-requires
+judge-lent-requires c κs = kept (c .before .before .before .before)
 
-returns : tie.Need-returns
-returns c =
-    let did = c .before .before .before .before .before in
-    let roomy = did .before .before .before .before .before .before .before .before .before in
-    let start = roomy .before .before in
-    let room = roomy .room-of .ensures in
+settle-requires : tie.Need-settle-requires
+settle-requires c κs =
+    let start = c .before .before .before .before .before .before .before in
+    let s = start .args .s .session in (
+      sound-parts-told s (sounded start) .few,
+      subst (Within (s .standing .opened)) (sym (c .before .before .judge-lent .ensures))
+          (judged-within (s .standing) (s .parts) (now (start .args .rec)) (kept start)),
+    )
+
+returns-2 : tie.Need-returns-2
+returns-2 c =
+    let told = c .before in
+    let settled = told .before in
+    let plain = settled .before in
+    let asked = plain .before in
+    let judged = asked .before in
+    let start = judged .before .before .before .before .before in
     c .answer-with .ensures
-    ∙ laid-back (start .args .house) (start .args .i) (start .pre .2) (room .0) (now (start .args .rec)) _
-    (did .deliver-lent .ensures)
+    ∙ laid-plain (start .args .house) (start .args .i) (now (start .args .rec)) (judged .judge-lent .result)
+    (start .args .s) (settled .settle .result) (told .plain-answer .result) (start .pre .2)
+    (judged .judge-lent .ensures) (sym (asked .wants-row .ensures) ∙ plain .if1 .left) (settled .settle .ensures)
+    (told .plain-answer .ensures)
 
 -- ---- found by search
 
-room-of-requires : tie.Need-room-of-requires
-room-of-requires c κs = search needs
+slice-aggregate-judge-lent : tie.Need-slice-aggregate-judge-lent
+slice-aggregate-judge-lent c = search needs
 
-slice-aggregate-deliver-lent : tie.Need-slice-aggregate-deliver-lent
-slice-aggregate-deliver-lent c = search needs
+wants-row-requires : tie.Need-wants-row-requires
+wants-row-requires c κs = search needs
 
-slice-aggregate-deliver-lent-2 : tie.Need-slice-aggregate-deliver-lent-2
-slice-aggregate-deliver-lent-2 c = search needs
+deliver-rows-requires : tie.Need-deliver-rows-requires
+deliver-rows-requires c κs = search needs
 
-slice-aggregate-deliver-lent-3 : tie.Need-slice-aggregate-deliver-lent-3
-slice-aggregate-deliver-lent-3 c = search needs
+returns : tie.Need-returns
+returns c = search needs
 
-mul-t22 : tie.Need-mul-t22
-mul-t22 c = search needs
+mul-t15 : tie.Need-mul-t15
+mul-t15 c = search needs
 
 element-set-from-h : tie.Need-element-set-from-h
 element-set-from-h c = search needs
+
+plain-answer-requires : tie.Need-plain-answer-requires
+plain-answer-requires c κs = search needs
 
 answer-with-requires : tie.Need-answer-with-requires
 answer-with-requires c κs = search needs
@@ -62,12 +82,14 @@ pub deliver-to-spec : {M : Type 1} → statement M
 deliver-to-spec =
     tie.close
     (tie.spec
-    room-of-requires
-    slice-aggregate-deliver-lent
-    slice-aggregate-deliver-lent-2
-    slice-aggregate-deliver-lent-3
-    deliver-lent-requires
-    mul-t22
+    slice-aggregate-judge-lent
+    judge-lent-requires
+    wants-row-requires
+    deliver-rows-requires
+    returns
+    settle-requires
+    mul-t15
     element-set-from-h
+    plain-answer-requires
     answer-with-requires
-    returns)
+    returns-2)

@@ -18,7 +18,7 @@ given c = sym (c .before .is-granted .ensures) ∙ c .if1 .taken
 count-row-requires : tie.Need-count-row-requires
 count-row-requires c κs =
     let start = c .before .before .before .before .before .before .before .before .before in
-    countable _ _ _ _ _ _ (start .pre) (c .before .before .before .before .before .rank-of .ensures)
+    countable _ _ _ _ _ _ (start .pre) (c .before .before .before .before .before .rank-among .ensures)
     (given (c .before .before))
 
 returns : tie.Need-returns
@@ -31,8 +31,8 @@ returns-2 c = row-none _ _ _ _ _ (sym (c .before .is-granted .ensures) ∙ c .if
 
 -- ---- found by search
 
-rank-of-requires : tie.Need-rank-of-requires
-rank-of-requires c κs = search needs
+rank-among-requires : tie.Need-rank-among-requires
+rank-among-requires c κs = search needs
 
 is-granted-requires : tie.Need-is-granted-requires
 is-granted-requires c κs = search needs
@@ -50,7 +50,7 @@ pub take-row-spec : {M : Type 1} → statement M
 take-row-spec =
     tie.close
     (tie.spec
-    rank-of-requires
+    rank-among-requires
     is-granted-requires
     count-row-requires
     same-length

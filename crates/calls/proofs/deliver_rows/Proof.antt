@@ -1,0 +1,73 @@
+-- `calls::deliver_rows` meets its contract: an open slot of a sound house lends its session and all rows, and
+-- takes them back.
+-- Assumes nothing.
+use mathlib.Core.Path.{_≡_, _∙_}
+use lib.ListN.{length}
+use denote.Ref.{now}
+use borrow.Author.Needs.{needs}
+use Rattle.house.proofs.Calling.{lent-to, laid-back}
+use Rattle.calls.proofs.deliver_rows.Statement.{statement}
+use Rattle.calls.proofs.deliver_rows.Tie as tie
+
+cells : (c : tie.Start) → length (c .args .s .session .parts) ≡ 32
+cells c = search needs
+
+paired : (c : tie.Start) → length (c .args .house .counts) ≡ 1024
+paired c = search needs
+
+long : (c : tie.Start) → length (c .args .house .keys) ≡ 1024
+long c = search needs
+
+deliver-lent-requires : tie.Need-deliver-lent-requires
+deliver-lent-requires c κs =
+    let start = c .before .before .before .before .before .before .before .before .before .before in
+    let room = c .before .before .before .before .before .before .before .before .room-of .ensures in
+    lent-to (start .args .house) (start .args .i) (start .pre .2) (room .0) (start .pre .0) (long start) (paired start)
+    (room .1) (start .pre .1) (start .pre .3) (cells start)
+
+returns : tie.Need-returns
+returns c =
+    let did = c .before .before .before .before .before in
+    let roomy = did .before .before .before .before .before .before .before .before .before in
+    let start = roomy .before .before in
+    let room = roomy .room-of .ensures in
+    c .answer-with .ensures
+    ∙ laid-back (start .args .house) (start .args .i) (start .pre .2) (room .0) (now (start .args .rec)) _
+    (did .deliver-lent .ensures)
+
+-- ---- found by search
+
+room-of-requires : tie.Need-room-of-requires
+room-of-requires c κs = search needs
+
+slice-aggregate-deliver-lent : tie.Need-slice-aggregate-deliver-lent
+slice-aggregate-deliver-lent c = search needs
+
+slice-aggregate-deliver-lent-2 : tie.Need-slice-aggregate-deliver-lent-2
+slice-aggregate-deliver-lent-2 c = search needs
+
+slice-aggregate-deliver-lent-3 : tie.Need-slice-aggregate-deliver-lent-3
+slice-aggregate-deliver-lent-3 c = search needs
+
+mul-t22 : tie.Need-mul-t22
+mul-t22 c = search needs
+
+element-set-from-h : tie.Need-element-set-from-h
+element-set-from-h c = search needs
+
+answer-with-requires : tie.Need-answer-with-requires
+answer-with-requires c κs = search needs
+
+pub deliver-rows-spec : {M : Type 1} → statement M
+deliver-rows-spec =
+    tie.close
+    (tie.spec
+    room-of-requires
+    slice-aggregate-deliver-lent
+    slice-aggregate-deliver-lent-2
+    slice-aggregate-deliver-lent-3
+    deliver-lent-requires
+    mul-t22
+    element-set-from-h
+    answer-with-requires
+    returns)
