@@ -1,0 +1,4 @@
+pub mod Following
+pub mod Text
+pub mod Lent
+pub mod Laws
