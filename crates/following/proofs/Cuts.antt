@@ -38,6 +38,11 @@ module _ (st : Standing) (bytes : List ℕ) where
     unfolding needed
     needed-later h = rw (later, le-ltb (length bytes) header h)
 
+    -- .. as a U*2 that was read tells it
+    pub needed-told : header ≤ length bytes → (n : ℕ) → n ≡ recLen (st .order) bytes
+        → header + n ≡ needed st bytes
+    needed-told h n is = ap (λ (x : ℕ). header + x) is ∙ sym (needed-later h)
+
 -- REC_LEN is told by the first two bytes
 len-front : (order : Order) (ys ts : List ℕ) → header ≤ length ys → recLen order (ys ++ ts) ≡ recLen order ys
 len-front order ys ts h =

@@ -1,3 +1,4 @@
 pub mod Laws
 pub mod Cuts
 pub mod Alone
+pub mod Steps

@@ -5,7 +5,7 @@
 --   walked                 .. while its records are walked over
 -- Assumes nothing.
 use mathlib.Core.Path.{_≡_}
-use mathlib.Core.Bool.{Bool, true, false}
+use mathlib.Core.Bool.{Bool, true, false, cond}
 use mathlib.Core.List.{List, [], _∷_}
 use Prim.Native.Nat.{ℕ, _+_, _-_, _≤_, _<_}
 use lib.ListN.{length, take, drop, replicate}
@@ -18,7 +18,7 @@ use Rattle.following.specs.declared.Fate.{Fate}
 use Rattle.following.specs.declared.Fate.the-variants.{Going}
 use Rattle.following.specs.declared.Stream.{Stream}
 use Rattle.following.specs.declared.Stage.{Stage}
-use Rattle.following.specs.Following.{Progress, progress, followed, mostLength}
+use Rattle.following.specs.Following.{Progress, progress, followed, mostLength, begun}
 
 abbrev pub firstSlot : Standing → List ℕ → Slot
 firstSlot st parts =
@@ -72,3 +72,40 @@ pub record Walkable (keys counts parts : List ℕ) (s : Stage) (bytes : List ℕ
   pub done : s .more ≡ false → walked keys counts parts s (rest s bytes) ≡ followed (walked keys counts parts s [])
       (rest s bytes)
   pub few : s .more ≡ false → length (rest s bytes) < mostLength
+
+-- bytes ahead, and one more while there is more to look at
+abbrev pub ahead : Stage → List ℕ → ℕ
+ahead s bytes = cond (s .more) 1 0 + (length bytes - s .at)
+
+-- from one stage of a walk to a later one: what is left is followed to the same end
+pub record Onward (keys counts parts : List ℕ) (s : Stage) (ks cs ps : List ℕ) (r : Stage) (bytes : List ℕ)
+    : Type 0 where
+  pub kept : Walkable ks cs ps r bytes
+  pub same : followed (walked ks cs ps r []) (rest r bytes) ≡ followed (walked keys counts parts s []) (rest s bytes)
+  pub fits : r .accepted + (length bytes - r .at) ≤ s .accepted + (length bytes - s .at)
+
+pub record Stepped (keys counts parts : List ℕ) (s : Stage) (ks cs ps : List ℕ) (r : Stage) (bytes : List ℕ)
+    : Type 0 where
+  pub onward : Onward keys counts parts s ks cs ps r bytes
+  pub nearer : ahead r bytes < ahead s bytes
+
+-- ---- a chunk more
+
+pub record Followed (s : Stream) (old : List ℕ) (got : ℕ) (r : Stream) (new : List ℕ) : Type 0 where
+  pub right : Right r new
+  pub is : progressOf r new ≡ followed (progressOf s old) (take got (drop (s .held) old))
+  pub fits : r .accepted + r .held ≤ s .accepted + (s .held + got)
+
+-- nothing has come
+pub record Begun (s : Stream) : Type 0 where
+  pub right : (buf : List ℕ) → Right s buf
+  pub is : (buf : List ℕ) → progressOf s buf ≡ begun
+  pub none : s .accepted + s .held ≡ 0
+
+-- the first stage of a walk over a chunk
+abbrev pub staged : Stream → Stage
+staged s =
+    record { used = s .used; standing = s .standing; accepted = s .accepted; fate = Going; at = 0; more = true }
+
+abbrev pub Staged : Stream → Stage → Type 0
+Staged s r = r ≡ staged s

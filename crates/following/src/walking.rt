@@ -4,9 +4,17 @@ use crate::Stage;
 use crate::cutting::needed;
 use core::deliver_lent;
 use house::Room;
+ghost use mathlib.Core.Path.{_≡_};
+ghost use mathlib.Core.Bool.{true, false};
+ghost use Prim.Native.Nat.{_+_, _≤_};
+ghost use lib.ListN.{length};
+ghost use Rattle.following.specs.Following.{needed, mostLength};
+ghost use Rattle.following.specs.Lent.{aloneRoom, Walkable, Onward, Stepped, rest};
 
 // What slot 0 sees of a house where it alone is open.
-fn room() -> Room {
+fn room() -> Room
+    ensures { λ r. ⌜ r ≡ aloneRoom ⌝ }
+{
     Room {
         slot: 0,
         floor: 1024,
@@ -22,7 +30,12 @@ fn take_record(
     s: Stage,
     bytes: &[u8],
     n: usize,
-) -> Stage {
+) -> Stage
+    requires { ⌜ Walkable (now keys) (now counts) (now parts) s (now bytes) × (s .more ≡ true) ⌝ }
+    requires { ⌜ (n ≡ needed (s .standing) (rest s (now bytes))) × (n ≤ mostLength) × (s .at + n ≤ length (now bytes)) ⌝ }
+    ensures { λ r. ⌜ Stepped (now (keys .entry)) (now (counts .entry)) (now (parts .entry)) s (now (keys .exit))
+        (now (counts .exit)) (now (parts .exit)) r (now (bytes .entry)) ⌝ }
+{
     let at = s.at;
     let next = at + n;
     let d = deliver_lent(
@@ -58,7 +71,11 @@ fn take_record(
 }
 
 // The record at `at`, if it is there whole.
-fn step(keys: &mut [u64], counts: &mut [u64], parts: &mut [u64], s: Stage, bytes: &[u8]) -> Stage {
+fn step(keys: &mut [u64], counts: &mut [u64], parts: &mut [u64], s: Stage, bytes: &[u8]) -> Stage
+    requires { ⌜ Walkable (now keys) (now counts) (now parts) s (now bytes) × (s .more ≡ true) ⌝ }
+    ensures { λ r. ⌜ Stepped (now (keys .entry)) (now (counts .entry)) (now (parts .entry)) s (now (keys .exit))
+        (now (counts .exit)) (now (parts .exit)) r (now (bytes .entry)) ⌝ }
+{
     let at = s.at;
     let standing = s.standing;
     let end = bytes.len();
@@ -93,7 +110,11 @@ pub(crate) fn walk(
     parts: &mut [u64],
     from: Stage,
     bytes: &[u8],
-) -> Stage {
+) -> Stage
+    requires { ⌜ Walkable (now keys) (now counts) (now parts) from (now bytes) ⌝ }
+    ensures { λ r. ⌜ Onward (now (keys .entry)) (now (counts .entry)) (now (parts .entry)) from (now (keys .exit))
+        (now (counts .exit)) (now (parts .exit)) r (now (bytes .entry)) × (r .more ≡ false) ⌝ }
+{
     let mut s = from;
     while s.more {
         s = step(keys, counts, parts, s, bytes);
