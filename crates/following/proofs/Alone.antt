@@ -18,8 +18,16 @@ use Rattle.house.specs.Calls.{slotAt, answered, openSlot, roomOf, deliver}
 use Rattle.house.specs.Laws.{Shaped}
 use Rattle.house.proofs.Calling.{deliver-judged, lent-to, laid-back}
 use Rattle.house.proofs.Keeping.{deliver-keeps}
-use Rattle.following.specs.Following.{progress, begun}
-use Rattle.following.specs.Lent.{firstSlot, houseOf, aloneRoom}
+use Rattle.house.proofs.Keeping.{open-keeps, fresh-sound}
+use Rattle.house.specs.House.{openedSlot}
+use Rattle.house.specs.Calls.{withSlot}
+use Rattle.house.proofs.Calling.{open-done}
+use Rattle.answers.specs.declared.Answer.the-variants.{Done}
+use Rattle.session.specs.Session as session
+use Rattle.following.specs.declared.Fate.the-variants.{Going}
+use Rattle.following.specs.declared.Stream.{Stream}
+use Rattle.following.specs.Following.{progress, followed, begun}
+use Rattle.following.specs.Lent.{firstSlot, houseOf, aloneRoom, streamHouse, progressOf, Right, Begun}
 
 module _ (keys counts : List ℕ) (used : ℕ) (st : Standing) (parts : List ℕ) where
   abbrev alone : House
@@ -59,3 +67,45 @@ module _ (keys counts : List ℕ) (used : ℕ) (st : Standing) (parts : List ℕ
       sound-after bytes =
           let kept = deliver-keeps alone 0 rec bytes (alone-shaped long paired cells) fine in
           rw deliver-alone at kept
+
+-- ---- a stream of which nothing has come
+
+abbrev none : List ℕ
+none = replicate rowCount 0
+
+abbrev first : House
+first = houseOf none none 0 (session.begun .standing) (session.begun .parts)
+
+first-opened : openSlot fresh 0 rowCount ≡ answered Done first
+unfolding promisedFrom unfilled heldBy
+first-opened =
+    open-done fresh 0 rowCount fresh-sound (omega arith) (omega arith) refl (omega arith) (openedSlot rowCount) refl
+
+first-sound : sound first ≡ true
+first-sound =
+    let kept = open-keeps fresh 0 rowCount fresh-shaped fresh-sound in
+    rw first-opened at kept
+  where
+    fresh-shaped : Shaped fresh
+    fresh-shaped = record { keys = refl; counts = refl; slots = refl; parts = closed-at slotCount }
+      where
+        closed-at : (n i : ℕ) → i < n → length (getD (replicate n closedSlot) i noSlot .session .parts) ≡ mostOpen
+        closed-at n i h = rw (getD-replicate n i closedSlot noSlot h)
+
+pub begins : Begun (record {
+  keys = none;
+  counts = none;
+  used = 0;
+  standing = session.begun .standing;
+  parts = session.begun .parts;
+  accepted = 0;
+  fate = Going;
+  held = 0;
+})
+unfolding followed
+begins =
+    record {
+      right = λ buf. record { fine = first-sound; within = omega arith; few = omega arith; waits = refl };
+      is = λ buf. rw first-opened;
+      none = refl;
+    }

@@ -127,11 +127,11 @@ module _ (h : House) (k : ℕ) (bytes : List ℕ) where
 
 -- ---- what stops is final
 
-pub stays-refused : (h : House) (k n : ℕ) (bytes : List ℕ)
-    → followed (progress h k (Refused n) []) bytes ≡ progress h k (Refused n) []
+pub stays-refused : (h : House) (k n : ℕ) (held bytes : List ℕ)
+    → followed (progress h k (Refused n) held) bytes ≡ progress h k (Refused n) held
 unfolding followed took
-stays-refused h k n [] = refl
-stays-refused h k n (b ∷ bs) = stays-refused h k n bs
+stays-refused h k n held [] = refl
+stays-refused h k n held (b ∷ bs) = stays-refused h k n held bs
 
 pub stays-long : (h : House) (k : ℕ) (held bytes : List ℕ)
     → followed (progress h k TooLong held) bytes ≡ progress h k TooLong held

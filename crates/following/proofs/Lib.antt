@@ -2,3 +2,4 @@ pub mod Laws
 pub mod Cuts
 pub mod Alone
 pub mod Steps
+pub mod Carry

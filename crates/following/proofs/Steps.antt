@@ -261,7 +261,7 @@ module _ (keys counts parts : List ℕ) (s : Stage) (bytes : List ℕ) (w : Walk
                       ∙ ap (λ (p : Progress). followed p (drop (s .at + n) bytes))
                       (answered-not (s .accepted) (calls.answered a h) (λ e. not (told ∙ e))
                       ∙ ap (λ (x : ℕ). progress h (s .accepted) (Refused x) []) (sym told))
-                      ∙ stays-refused h (s .accepted) number (drop (s .at + n) bytes));
+                      ∙ stays-refused h (s .accepted) number [] (drop (s .at + n) bytes));
                   fits = omega arith;
                 };
             nearer = omega (arith, before);

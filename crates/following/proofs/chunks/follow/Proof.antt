@@ -1,9 +1,9 @@
+-- `following::chunks::follow` meets its contract: a stream that goes on is followed, one that has stopped stays so.
+-- Assumes nothing.
 use borrow.Author.Needs.{needs}
+use Rattle.following.proofs.Carry.{refused-stays, long-stays}
 use Rattle.following.proofs.chunks.follow.Statement.{statement}
 use Rattle.following.proofs.chunks.follow.Tie as tie
-use Rattle.following.proofs.chunks.follow.Reads as reads
-use Rattle.following.proofs.chunks.follow.Lts as lts
-use Rattle.following.proofs.chunks.follow_on.Reads as follow-on-reads
 
 -- src/chunks.rt:102:37
 enum-told : tie.Need-enum-told
@@ -31,11 +31,11 @@ returns c = search needs
 
 -- src/chunks.rt:95:1
 returns-2 : tie.Need-returns-2
-returns-2 c = ?
+returns-2 c = refused-stays _ _ _ (c .before .before .before .pre .0) _ (c .enum-told2 .given .1)
 
 -- src/chunks.rt:95:1
 returns-3 : tie.Need-returns-3
-returns-3 c = ?
+returns-3 c = long-stays _ _ _ (c .before .before .before .pre .0) (c .enum-told3 .given .1)
 
 pub follow-spec : {M : Type 1} → statement M
 follow-spec =

@@ -1,53 +1,57 @@
+-- `following::chunks::keep` meets its contract: byte after byte comes to the front, and none is read that was written.
+-- Assumes nothing.
+use mathlib.Core.Path.{_≡_, refl, ap, sym, _∙_}
+use Prim.Native.Nat.{ℕ, _-_, _≤_}
+use native.Mathlib.Omega.{arith}
+use lib.ListN.{length, take, drop}
+use denote.Ref.{now}
+use Rattle.following.proofs.Carry.{Moved, moved-none, moved-on}
 use Rattle.following.proofs.chunks.keep.Statement.{statement}
 use Rattle.following.proofs.chunks.keep.Tie as tie
-use Rattle.following.proofs.chunks.keep.Reads as reads
-use Rattle.following.proofs.chunks.keep.Lts as lts
 
 abbrev Inv-loop : tie.InvT-loop
-Inv-loop buf₀ at end n i₀ buf i = ?
+Inv-loop buf₀ at end n i₀ buf i = (i ≤ n) × Moved at buf₀ buf i
 
 abbrev μ-loop : tie.MeasureT-loop
-μ-loop buf₀ at end n i₀ buf i = ?
+μ-loop buf₀ at end n i₀ buf i = n - i
 
--- src/chunks.rt:40:13
 sub-n : tie.Need-sub-n Inv-loop μ-loop
-sub-n c = ?
+sub-n c = omega arith
 
--- src/chunks.rt:42:5
 loop-holds : tie.Need-loop-holds Inv-loop μ-loop
-loop-holds c = ?
+loop-holds c = (omega arith, moved-none (c .args .at) (now (c .args .buf)))
 
--- src/chunks.rt:43:22
 add-buf : tie.Need-add-buf Inv-loop μ-loop
-add-buf c = ?
+add-buf c = omega arith
 
--- src/chunks.rt:43:18
 slice-read-buf : tie.Need-slice-read-buf Inv-loop μ-loop
-slice-read-buf c = ?
+slice-read-buf c = omega arith
 
--- src/chunks.rt:43:9
 slice-write-buf : tie.Need-slice-write-buf Inv-loop μ-loop
-slice-write-buf c = ?
+slice-write-buf c = omega arith
 
--- src/chunks.rt:44:9
 add-i : tie.Need-add-i Inv-loop μ-loop
-add-i c = ?
+add-i c = omega arith
 
--- src/chunks.rt:42:5
 loop-less : tie.Need-loop-less Inv-loop μ-loop
-loop-less c = ?
+loop-less c = omega arith
 
--- src/chunks.rt:42:5
 loop-again : tie.Need-loop-again Inv-loop μ-loop
-loop-again c = ?
+loop-again c = (omega arith, moved-on _ _ _ _ (omega arith) (c .before .before .loop .inv .1))
 
--- src/chunks.rt:36:1
 same-length : tie.Need-same-length Inv-loop μ-loop
-same-length c = ?
+same-length c = c .before .loop .inv .1 .long
 
--- src/chunks.rt:36:1
 returns : tie.Need-returns Inv-loop μ-loop
-returns c = ?
+returns c =
+    let inv = c .before .loop .inv in
+    let all : c .before .loop .i ≡ c .before .before .args .end - c .before .before .args .at = omega arith in
+    (
+      refl,
+      ap (λ (k : ℕ). take k (c .before .loop .buf)) (sym all)
+          ∙ inv .1 .front
+          ∙ ap (λ (k : ℕ). take k (drop (c .before .before .args .at) (now (c .before .before .args .buf)))) all,
+    )
 
 pub keep-spec : {M : Type 1} → statement M
 keep-spec =
