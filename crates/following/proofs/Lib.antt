@@ -3,3 +3,4 @@ pub mod Cuts
 pub mod Alone
 pub mod Steps
 pub mod Carry
+pub mod Texts

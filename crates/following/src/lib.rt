@@ -3,13 +3,13 @@
 // bytes, whatever the chunks were: specs/Following.antt and specs/Text.antt.
 mod chunks;
 mod cutting;
-//mod ending;
-//mod saying;
+mod ending;
+mod saying;
 mod walking;
 
 pub use chunks::begin;
 pub use chunks::follow;
-//pub use ending::finish;
+pub use ending::finish;
 use session::Standing;
 
 // What has become of a stream: it goes on, or its next record was refused, or is too long.

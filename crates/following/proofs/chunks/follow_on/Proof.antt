@@ -37,8 +37,7 @@ keep-requires : tie.Need-keep-requires
 keep-requires c κs =
     let walked = c .before .before .before .before .before in
     let from = staged walked in
-    let s = start from in
-    (
+    let s = start from in (
       walk-ends (s .args .s) (now (s .args .buf)) (s .args .got) (s .pre .0) (s .pre .1) (s .pre .2) (s .pre .3) _
           (front-part (s .args .s .held + s .args .got) (now (s .args .buf))) _ (from .stage-of .ensures) _ _ _ _ (walked .walk .ensures .0)
           (walked .walk .ensures .1),

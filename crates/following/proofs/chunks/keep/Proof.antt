@@ -45,8 +45,7 @@ same-length c = c .before .loop .inv .1 .long
 returns : tie.Need-returns Inv-loop μ-loop
 returns c =
     let inv = c .before .loop .inv in
-    let all : c .before .loop .i ≡ c .before .before .args .end - c .before .before .args .at = omega arith in
-    (
+    let all : c .before .loop .i ≡ c .before .before .args .end - c .before .before .args .at = omega arith in (
       refl,
       ap (λ (k : ℕ). take k (c .before .loop .buf)) (sym all)
           ∙ inv .1 .front

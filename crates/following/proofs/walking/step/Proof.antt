@@ -37,8 +37,7 @@ take-record-requires : tie.Need-take-record-requires
 take-record-requires c κs =
     let whole = c .before .before .before in
     let asked = whole .before .before in
-    let given = start asked .pre in
-    (
+    let given = start asked .pre in (
       (given .0, given .1),
       (told asked, whole .before .if1 .left, omega (arith, whole .if2 .left, given .0 .within)),
     )
