@@ -37,8 +37,14 @@ put-row-requires : tie.Need-put-row-requires Inv-loop μ-loop
 put-row-requires c κs =
     let inside = c .before .before in
     let inv = inside .before .loop .inv .1 in
-    omega (arith, told (inside .before .before) .1, inside .loop-test .taken, inv .few, inv .long,
-    inside .before .before .before .before .pre)
+    omega (
+      arith,
+      told (inside .before .before) .1,
+      inside .loop-test .taken,
+      inv .few,
+      inv .long,
+      inside .before .before .before .before .pre,
+    )
 
 add-at : tie.Need-add-at Inv-loop μ-loop
 add-at c =
@@ -61,8 +67,7 @@ loop-again : tie.Need-loop-again Inv-loop μ-loop
 loop-again c =
     let put = c .before .before in
     let inside = put .before .before .before in
-    let inv = inside .before .loop .inv .1 in
-    (
+    let inv = inside .before .loop .inv .1 in (
       omega (arith, inside .loop-test .taken),
       lined-on _ _ _ _ _ _ _ _ (put .put-row .kept .0) (put .before .row-at .ensures) inv (put .put-row .ensures),
     )

@@ -55,7 +55,6 @@ add-result c =
 same-length : tie.Need-same-length
 same-length c = search needs
 
-
 pub put-last-spec : {M : Type 1} → statement M
 put-last-spec =
     tie.close

@@ -54,7 +54,6 @@ add-result c =
 same-length : tie.Need-same-length
 same-length c = search needs
 
-
 pub put-refusal-spec : {M : Type 1} → statement M
 put-refusal-spec =
     tie.close
