@@ -1,0 +1,6 @@
+pub mod Laws
+pub mod Cuts
+pub mod Alone
+pub mod Steps
+pub mod Carry
+pub mod Texts

@@ -1,0 +1,5 @@
+pub mod Following
+pub mod Text
+pub mod Lent
+pub mod Saying
+pub mod Laws

@@ -1,0 +1,106 @@
+// A stream, chunk by chunk. The bytes of an unfinished record stay at the front of the buffer, and the next chunk is
+// read behind them: no chunk is copied.
+use crate::Fate;
+use crate::Stage;
+use crate::Stream;
+use crate::walking::walk;
+use session::Session;
+ghost use mathlib.Core.Path.{_≡_};
+ghost use mathlib.Core.Bool.{true};
+ghost use Prim.Native.Nat.{_+_, _-_, _≤_};
+ghost use lib.ListN.{length, take, drop};
+ghost use Rattle.following.specs.declared.Fate.the-variants.{Going};
+ghost use Rattle.following.specs.Following.{begun};
+ghost use Rattle.following.specs.Lent.{progressOf, pastCount, Right, Begun, Followed, Staged};
+
+// A stream of which nothing has come: slot 0 is open with floor 1,024.
+pub fn begin() -> Stream
+    ensures { λ r. ⌜ Begun r ⌝ }
+{
+    let session = Session::begin();
+    let standing = session.standing;
+    let parts = session.parts;
+    Stream {
+        keys: [0; 1024],
+        counts: [0; 1024],
+        used: 0,
+        standing,
+        parts,
+        accepted: 0,
+        fate: Fate::Going,
+        held: 0,
+    }
+}
+
+// Moves the bytes from `at` to before `end` to the front.
+fn keep(buf: &mut [u8], at: usize, end: usize) -> usize
+    requires { ⌜ (at ≤ end) × (end ≤ length (now buf)) ⌝ }
+    ensures { λ r. ⌜ (r ≡ end - at) × (take r (now (buf .exit)) ≡ take r (drop at (now (buf .entry)))) ⌝ }
+{
+    let n = end - at;
+    let mut i: usize = 0;
+    while i < n {
+        buf[i] = buf[at + i];
+        i += 1;
+    }
+    n
+}
+
+fn stage_of(s: Stream) -> Stage
+    ensures { λ r. ⌜ Staged s r ⌝ }
+{
+    let standing = s.standing;
+    Stage {
+        used: s.used,
+        standing,
+        accepted: s.accepted,
+        fate: Fate::Going,
+        at: 0,
+        more: true,
+    }
+}
+
+fn follow_on(s: Stream, buf: &mut [u8], got: usize) -> Stream
+    requires { ⌜ Right s (now buf) × (s .fate ≡ Going) × (s .held + got ≤ length (now buf))
+        × (s .accepted + (s .held + got) ≤ pastCount) ⌝ }
+    ensures { λ r. ⌜ Followed s (now (buf .entry)) got r (now (buf .exit)) ⌝ }
+{
+    let mut keys = s.keys;
+    let mut counts = s.counts;
+    let mut parts = s.parts;
+    let end = s.held + got;
+    let w = walk(
+        &mut keys,
+        &mut counts,
+        &mut parts,
+        stage_of(s),
+        &buf[0..end],
+    );
+    let standing = w.standing;
+    let fate = w.fate;
+    let held = keep(buf, w.at, end);
+    Stream {
+        keys,
+        counts,
+        used: w.used,
+        standing,
+        parts,
+        accepted: w.accepted,
+        fate,
+        held,
+    }
+}
+
+// A chunk more: `got` bytes stand in the buffer behind those that are held.
+pub fn follow(s: Stream, buf: &mut [u8], got: usize) -> Stream
+    requires { ⌜ Right s (now buf) × (s .held + got ≤ length (now buf))
+        × (s .accepted + (s .held + got) ≤ pastCount) ⌝ }
+    ensures { λ r. ⌜ Followed s (now (buf .entry)) got r (now (buf .exit)) ⌝ }
+{
+    let fate = s.fate;
+    match fate {
+        Fate::Going => follow_on(s, buf, got),
+        Fate::Refused(_) => s,
+        Fate::TooLong => s,
+    }
+}

@@ -1,0 +1,119 @@
+// What is written at the end of a stream: document 01, "Tally program".
+use crate::Fate;
+use crate::Stream;
+use crate::cutting::is_start;
+use crate::saying::put_refused;
+use crate::saying::put_row;
+use crate::saying::put_too_long;
+use crate::saying::put_unfinished;
+use calls::deliver;
+use calls::judge_report;
+use calls::row_at;
+use house::House;
+use house::Slot;
+use order::Place;
+use session::Session;
+ghost use mathlib.Core.Path.{_≡_};
+ghost use Prim.Native.Nat.{_+_, _≤_};
+ghost use lib.ListN.{length, take};
+ghost use Rattle.answers.specs.Numbers.{numberOf};
+ghost use Rattle.placing.specs.Placed.{Put};
+ghost use Rattle.following.specs.Text.{reportLines, isEnded, leftOver, endedWith, ended};
+ghost use Rattle.following.specs.Lent.{streamHouse, progressOf, pastCount};
+ghost use Rattle.following.specs.Saying.{mostText};
+
+// The house that a stream's rows and session stand for.
+fn house_of(s: Stream) -> House
+    ensures { λ r. ⌜ r ≡ streamHouse s ⌝ }
+{
+    let keys = s.keys;
+    let counts = s.counts;
+    let standing = s.standing;
+    let parts = s.parts;
+    let session = Session { standing, parts };
+    let mut h = House::fresh();
+    h.keys = keys;
+    h.counts = counts;
+    h.used = s.used;
+    h.slots[0] = Slot {
+        taken: true,
+        floor: 1024,
+        session,
+    };
+    h
+}
+
+// One HBR line for each row, in the order of a report.
+fn put_rows(out: &mut [u8], h: House) -> usize
+    requires { ⌜ mostText ≤ length (now out) ⌝ }
+    ensures { λ r. ⌜ Put (reportLines h) (now (out .entry)) r (now (out .exit)) ⌝ }
+{
+    let found = judge_report(h, 0, 1024);
+    let rows = found.rows;
+    let mut at: usize = 0;
+    let mut i: usize = 0;
+    while i < rows {
+        at += put_row(out, at, row_at(h, 0, i));
+        i += 1;
+    }
+    at
+}
+
+fn is_ended(place: Place) -> bool
+    ensures { λ r. ⌜ r ≡ isEnded place ⌝ }
+{
+    match place {
+        Place::Start => false,
+        Place::Header => false,
+        Place::Lot => false,
+        Place::Setup => false,
+        Place::Body => false,
+        Place::Ended => true,
+    }
+}
+
+// What bytes left over are refused with: 3, but the first record is all bytes where they are fewer than six.
+fn left_over(s: Stream, bytes: &[u8]) -> u8
+    ensures { λ r. ⌜ r ≡ numberOf (leftOver (streamHouse s) (now (bytes .entry))) ⌝ }
+{
+    let st = s.standing;
+    let place = st.place;
+    if is_start(place) {
+        let done = deliver(house_of(s), 0, bytes);
+        let answer = done.answer;
+        answers::number(answer)
+    } else {
+        3
+    }
+}
+
+fn finish_going(s: Stream, buf: &[u8], out: &mut [u8]) -> usize
+    requires { ⌜ (s .held ≤ length (now buf)) × (s .accepted + 1 ≤ pastCount) × (mostText ≤ length (now out)) ⌝ }
+    ensures { λ r. ⌜ Put (endedWith (streamHouse s) (s .accepted) (take (s .held) (now (buf .entry)))) (now (out .entry))
+        r (now (out .exit)) ⌝ }
+{
+    let held = s.held;
+    if 0 < held {
+        return put_refused(out, left_over(s, &buf[0..held]), s.accepted + 1);
+    }
+    let st = s.standing;
+    let place = st.place;
+    if is_ended(place) {
+        put_rows(out, house_of(s))
+    } else {
+        put_unfinished(out, s.accepted)
+    }
+}
+
+// The text of a stream that has ended, at the start of the lent output. Answers how many bytes it has.
+pub fn finish(s: Stream, buf: &[u8], out: &mut [u8]) -> usize
+    requires { ⌜ (s .held ≤ length (now buf)) × (s .accepted + 1 ≤ pastCount) × (mostText ≤ length (now out)) ⌝ }
+    ensures { λ r. ⌜ Put (ended (progressOf s (now (buf .entry)))) (now (out .entry)) r (now (out .exit)) ⌝ }
+{
+    let fate = s.fate;
+    match fate {
+        Fate::Going => finish_going(s, buf, out),
+        Fate::Refused(n) => put_refused(out, n, s.accepted + 1),
+        Fate::TooLong => put_too_long(out, s.accepted + 1),
+    }
+}

@@ -1,0 +1,43 @@
+-- `tally::read_more` meets its contract: what is lent to the read begins behind the held bytes.
+-- Assumes nothing.
+use native.Mathlib.Omega.{arith}
+use denote.Ref.{now}
+use borrow.Author.Needs.{needs}
+use Rattle.tally.proofs.Laws.{front-kept}
+use Rattle.tally.proofs.read_more.Statement.{statement}
+use Rattle.tally.proofs.read_more.Tie as tie
+
+sub-part : tie.Need-sub-part
+sub-part c = search needs
+
+part-part-start : tie.Need-part-part-start
+part-part-start c = search needs
+
+part-part-end : tie.Need-part-part-end
+part-part-end c = search needs
+
+read-requires : tie.Need-read-requires
+read-requires c κs = search needs
+
+count-requires : tie.Need-count-requires
+count-requires c κs = search needs
+
+same-length : tie.Need-same-length
+same-length c = search needs
+
+returns : tie.Need-returns
+returns c =
+    let start = c .before .before .before .before .before .before .before .before .before .before in
+    (front-kept (start .args .held) (now (start .args .buf)) _ (start .pre), search needs)
+
+pub read-more-spec : {M : Type 1} → statement M
+read-more-spec =
+    tie.close
+    (tie.spec
+    sub-part
+    part-part-start
+    part-part-end
+    read-requires
+    count-requires
+    same-length
+    returns)
