@@ -1,13 +1,22 @@
 -- The statements of specs/Laws.antt, proved.
 -- Assumes nothing.
-use mathlib.Core.Path.{sym, _∙_}
+use mathlib.Core.Path.{_≡_, refl, ap, sym, _∙_}
+use mathlib.Core.Bool.{Bool, true, false, cond, true≢false}
+use mathlib.Core.List.{List, _++_}
+use Prim.Native.Nat.{ℕ, _+_}
+use lib.Dec.{leb}
+use lib.ListN.{length, take, drop}
 use Rattle.words.proofs.Once.{equation}
-use Rattle.placing.specs.Placed.{Outcome}
-use Rattle.lines.specs.Writing.{lineWritten}
-use Rattle.lines.specs.Reading.{lineRead}
+use Rattle.answers.specs.declared.Answer.{Answer}
+use Rattle.answers.specs.declared.Answer.the-variants.{OutputTooShort}
+use Rattle.placing.specs.declared.Written.{Written}
+use Rattle.placing.specs.declared.Written.the-variants as written
+use Rattle.placing.specs.Placed.{Making, Makes, Refuses, Outcome, outcome, refused, placedAt, placed}
+use Rattle.lines.specs.Writing.{textFor, lineWritten}
+use Rattle.lines.specs.Reading.{recordFor, lineRead}
 use Rattle.texts.proofs.Canonical.{canonical-read}
 use Rattle.lines.specs.Laws.{WrittenOnce, ReadOnce, WrittenRead, WrittenMost, RecordRead}
-use Rattle.lines.specs.Laws.{ThereAndBack, BackAgain}
+use Rattle.lines.specs.Laws.{ThereAndBack, BackAgain, WriteRefused, ReadRefused}
 use Rattle.lines.proofs.Fitting.{record-fits}
 use Rattle.lines.proofs.Most.{text-most}
 use Rattle.lines.proofs.Made as made
@@ -33,3 +42,29 @@ there-and-back = rounds.there-and-back
 
 pub back-again : BackAgain
 back-again = rounds.back-again
+
+-- ---- a refusal
+
+abbrev wrote : Written → Bool
+wrote (written.Bytes n) = true
+wrote (written.Refused a) = false
+
+placed-refused : (m : Making) (old : List ℕ) (at : ℕ) (a : Answer) → placed m old at .answer ≡ written.Refused a
+    → placed m old at .output ≡ old
+unfolding placedAt
+placed-refused (Refuses b) old at a e = refl
+placed-refused (Makes bytes) old at a e = go (leb (at + length bytes) (length old)) e
+  where
+    done : Outcome
+    done = outcome (written.Bytes (length bytes)) (take at old ++ (bytes ++ drop (at + length bytes) old))
+
+    go : (b : Bool) → cond b done (refused OutputTooShort old) .answer ≡ written.Refused a
+        → cond b done (refused OutputTooShort old) .output ≡ old
+    go true f = absurd (true≢false (ap wrote f))
+    go false f = refl
+
+pub write-refused : WriteRefused
+write-refused cpu s old at a e = placed-refused (textFor cpu s) old at a e
+
+pub read-refused : ReadRefused
+read-refused cpu line old at a e = placed-refused (recordFor cpu line) old at a e

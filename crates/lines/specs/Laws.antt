@@ -6,6 +6,7 @@
 --   ThereAndBack             a record, written and read back by the calls, has the same meaning
 --   BackAgain                a line, read and written by the calls, is the canonical line of the same meaning
 --   WrittenMost              the longest line
+--   WriteRefused, ReadRefused   a refusal changes no byte of the output
 -- Assumes nothing.
 use mathlib.Core.Path.{_≡_}
 use mathlib.Core.Bool.{true}
@@ -18,6 +19,7 @@ use Rattle.numbers.specs.declared.Order.{Order}
 use Rattle.numbers.specs.declared.Ordering.the-variants.{Known}
 use Rattle.numbers.specs.Orders.{orderOf}
 use Rattle.numbers.specs.Laws.{Bytes}
+use Rattle.answers.specs.declared.Answer.{Answer}
 use Rattle.layouts.specs.Entries.{Meaning}
 use Rattle.layouts.specs.Layouts.{textOf, recordOf}
 use Rattle.layouts.specs.Judging.{Says}
@@ -85,3 +87,12 @@ BackAgain = (cpu : ℕ) (line old : List ℕ) (at n : ℕ) (new : List ℕ)
 abbrev pub WrittenMost : Type 0
 WrittenMost = (order : Order) (s : List ℕ) (m : Meaning) → Bytes s → meaning order s ≡ Says m
     → each entryAllowed (m .entries) ≡ true → length (textOf m) ≤ 287
+
+-- a refusal changes no byte of the output
+abbrev pub WriteRefused : Type 0
+WriteRefused = (cpu : ℕ) (s old : List ℕ) (at : ℕ) (a : Answer)
+    → lineWritten cpu s old at .answer ≡ written.Refused a → lineWritten cpu s old at .output ≡ old
+
+abbrev pub ReadRefused : Type 0
+ReadRefused = (cpu : ℕ) (line old : List ℕ) (at : ℕ) (a : Answer)
+    → lineRead cpu line old at .answer ≡ written.Refused a → lineRead cpu line old at .output ≡ old
