@@ -46,58 +46,64 @@ roomy-columns Sbr = refl
 -- ---- one field
 
 -- as long as its table's type says, and short
-pub record Sized (form : Form) (bytes : List ℕ) : Type 0 where
+pub record Measured (form : Form) (bytes : List ℕ) : Type 0 where
   pub some : 1 ≤ length bytes
   pub few : length bytes ≤ 256
   pub is : size (typeOf form) (getD bytes 0 0) ≡ length bytes
 
 module _ (order : Order) where
-  number-sized : (form : Form) (n : ℕ) → isName form ≡ false → Sized form (written order (width form) n)
-  number-sized U1 n e = let w = length-written order 1 n in record { some = omega arith; few = omega arith; is = sym w }
-  number-sized U2 n e = let w = length-written order 2 n in record { some = omega arith; few = omega arith; is = sym w }
-  number-sized U4 n e = let w = length-written order 4 n in record { some = omega arith; few = omega arith; is = sym w }
-  number-sized C1 n e = let w = length-written order 1 n in record { some = omega arith; few = omega arith; is = sym w }
-  number-sized Cn n e = false-true (sym e)
+  of-width : (form : Form) (w n : ℕ) → 1 ≤ w → w ≤ 256 → size (typeOf form) (getD (written order w n) 0 0) ≡ w
+      → Measured form (written order w n)
+  of-width form w n some few is =
+      let long = length-written order w n in
+      record { some = omega arith; few = omega arith; is = is ∙ sym long }
 
-  name-sized : (bytes : List ℕ) → length bytes ≤ 255 → Sized Cn (written order 1 (length bytes) ++ bytes)
-  name-sized bytes h =
+  number-measured : (form : Form) (n : ℕ) → isName form ≡ false → Measured form (written order (width form) n)
+  number-measured U1 n e = of-width U1 1 n (omega arith) (omega arith) refl
+  number-measured U2 n e = of-width U2 2 n (omega arith) (omega arith) refl
+  number-measured U4 n e = of-width U4 4 n (omega arith) (omega arith) refl
+  number-measured C1 n e = of-width C1 1 n (omega arith) (omega arith) refl
+  number-measured Cn n e = false-true (sym e)
+
+  name-measured : (bytes : List ℕ) → length bytes ≤ 255 → Measured Cn (written order 1 (length bytes) ++ bytes)
+  name-measured bytes h =
       rw (one-written order (length bytes) (omega arith))
       (record { some = omega arith; few = omega arith; is = omega arith })
 
-  missing-sized : (form : Form) → Sized form (stored order form Missing)
-  missing-sized U1 = number-sized U1 (missingValue U1) refl
-  missing-sized U2 = number-sized U2 (missingValue U2) refl
-  missing-sized U4 = number-sized U4 (missingValue U4) refl
-  missing-sized C1 = number-sized C1 (missingValue C1) refl
-  missing-sized Cn =
+  missing-measured : (form : Form) → Measured form (stored order form Missing)
+  missing-measured U1 = number-measured U1 (missingValue U1) refl
+  missing-measured U2 = number-measured U2 (missingValue U2) refl
+  missing-measured U4 = number-measured U4 (missingValue U4) refl
+  missing-measured C1 = number-measured C1 (missingValue C1) refl
+  missing-measured Cn =
       rw (one-written order 0 (omega arith)) (record { some = omega arith; few = omega arith; is = refl })
 
-  value-sized : (form : Form) (n : ℕ) → isNumber form ≡ true → Sized form (stored order form (Number n))
-  value-sized U1 n e = number-sized U1 n refl
-  value-sized U2 n e = number-sized U2 n refl
-  value-sized U4 n e = number-sized U4 n refl
-  value-sized C1 n e = false-true e
-  value-sized Cn n e = false-true e
+  value-measured : (form : Form) (n : ℕ) → isNumber form ≡ true → Measured form (stored order form (Number n))
+  value-measured U1 n e = number-measured U1 n refl
+  value-measured U2 n e = number-measured U2 n refl
+  value-measured U4 n e = number-measured U4 n refl
+  value-measured C1 n e = false-true e
+  value-measured Cn n e = false-true e
 
-  text-sized : (form : Form) (most : ℕ) (bytes : List ℕ) → isNumber form ≡ false → 1 ≤ length bytes
-      → length bytes ≤ most → most ≤ cond (isName form) 255 1 → Sized form (stored order form (Text bytes))
-  text-sized U1 most bytes e some few room = false-true (sym e)
-  text-sized U2 most bytes e some few room = false-true (sym e)
-  text-sized U4 most bytes e some few room = false-true (sym e)
-  text-sized C1 most bytes e some few room = record { some = some; few = omega arith; is = omega arith }
-  text-sized Cn most bytes e some few room = name-sized bytes (omega arith)
+  text-measured : (form : Form) (most : ℕ) (bytes : List ℕ) → isNumber form ≡ false → 1 ≤ length bytes
+      → length bytes ≤ most → most ≤ cond (isName form) 255 1 → Measured form (stored order form (Text bytes))
+  text-measured U1 most bytes e some few room = false-true (sym e)
+  text-measured U2 most bytes e some few room = false-true (sym e)
+  text-measured U4 most bytes e some few room = false-true (sym e)
+  text-measured C1 most bytes e some few room = record { some = some; few = omega arith; is = omega arith }
+  text-measured Cn most bytes e some few room = name-measured bytes (omega arith)
 
-  pub entry-sized : (c : Column) (e : Entry) → roomy c ≡ true → entryFits c e ≡ true
-      → Sized (c .0) (stored order (c .0) e)
-  entry-sized c Missing room e = missing-sized (c .0)
-  entry-sized c (Number n) room e = value-sized (c .0) n (both-left (isNumber (c .0)) (leb n (c .1)) e)
-  entry-sized c (Text []) room e = false-true e
-  entry-sized c (Text (b ∷ bs)) room e =
+  pub entry-measured : (c : Column) (e : Entry) → roomy c ≡ true → entryFits c e ≡ true
+      → Measured (c .0) (stored order (c .0) e)
+  entry-measured c Missing room e = missing-measured (c .0)
+  entry-measured c (Number n) room e = value-measured (c .0) n (both-left (isNumber (c .0)) (leb n (c .1)) e)
+  entry-measured c (Text []) room e = false-true e
+  entry-measured c (Text (b ∷ bs)) room e =
       let rule = cond (isName (c .0)) (each allowed (b ∷ bs)) (letterFits (b ∷ bs)) in
       let short = leb (length (b ∷ bs)) (c .1) in
       let text = not-true (isNumber (c .0)) (both-left (not (isNumber (c .0))) (short && rule) e) in
       let few = both-left short rule (both-right (not (isNumber (c .0))) (short && rule) e) in
-      text-sized (c .0) (c .1) (b ∷ bs) text (omega arith) (leb-true (length (b ∷ bs)) (c .1) few)
+      text-measured (c .0) (c .1) (b ∷ bs) text (omega arith) (leb-true (length (b ∷ bs)) (c .1) few)
       (leb-true (c .1) (cond (isName (c .0)) 255 1) (rw text at room))
 
 -- ---- field after field
@@ -157,13 +163,13 @@ module _ (order : Order) where
     no-fields : laidIn (c ∷ cs) [] ≡ []
     no-fields = laid-none (layout.Record order) (c ∷ cs)
 
-    fits-kept : (e : Entry) (es : List Entry) (required : ℕ) → Sized (c .0) (stored order (c .0) e)
+    fits-kept : (e : Entry) (es : List Entry) (required : ℕ) → Measured (c .0) (stored order (c .0) e)
         → required ≤ length (kept e es)
         → (required - 1 ≤ length es → fits (types cs) (required - 1) (laidIn cs es) ≡ true)
         → fits (types (c ∷ cs)) required (laidIn (c ∷ cs) (kept e es)) ≡ true
     fits-kept =
         kept-by
-        (λ (e : Entry) (es all : List Entry). (required : ℕ) → Sized (c .0) (stored order (c .0) e)
+        (λ (e : Entry) (es all : List Entry). (required : ℕ) → Measured (c .0) (stored order (c .0) e)
         → required ≤ length all
         → (required - 1 ≤ length es → fits (types cs) (required - 1) (laidIn cs es) ≡ true)
         → fits (types (c ∷ cs)) required (laidIn (c ∷ cs) all) ≡ true)
@@ -172,11 +178,11 @@ module _ (order : Order) where
         (fits-on (typeOf (c .0)) (types cs) required (stored order (c .0) e) (laidIn cs es) (s .some) (s .is)
         ∙ more (omega arith)))
 
-    length-kept : (e : Entry) (es : List Entry) → Sized (c .0) (stored order (c .0) e)
+    length-kept : (e : Entry) (es : List Entry) → Measured (c .0) (stored order (c .0) e)
         → length (laidIn (c ∷ cs) (kept e es)) ≤ 256 + length (laidIn cs es)
     length-kept =
         kept-by
-        (λ (e : Entry) (es all : List Entry). Sized (c .0) (stored order (c .0) e)
+        (λ (e : Entry) (es all : List Entry). Measured (c .0) (stored order (c .0) e)
         → length (laidIn (c ∷ cs) all) ≤ 256 + length (laidIn cs es))
         (λ s. rw no-fields (omega arith))
         (λ e es s. rw (laid-first e es)
@@ -196,9 +202,9 @@ module _ (order : Order) where
 
   module _ (c : Column) (cs : List Column) (x : Entry) (es : List Entry) (room : each roomy (c ∷ cs) ≡ true)
       (e : entriesFit (c ∷ cs) (x ∷ es) ≡ true) where
-    first-sized : Sized (c .0) (stored order (c .0) x)
-    first-sized =
-        entry-sized order c x (both-left (roomy c) (each roomy cs) room)
+    first-measured : Measured (c .0) (stored order (c .0) x)
+    first-measured =
+        entry-measured order c x (both-left (roomy c) (each roomy cs) room)
         (both-left (entryFits c x) (entriesFit cs es) e)
 
     rest-roomy : each roomy cs ≡ true
@@ -214,7 +220,7 @@ module _ (order : Order) where
   laid-fits [] (x ∷ es) required room e few = false-true e
   laid-fits (c ∷ cs) [] required room e few = false-true e
   laid-fits (c ∷ cs) (x ∷ es) required room e few =
-      fits-kept c cs x (present es) required (first-sized c cs x es room e) few
+      fits-kept c cs x (present es) required (first-measured c cs x es room e) few
       (λ more. laid-fits cs es (required - 1) (rest-roomy c cs x es room e) (rest-fit c cs x es room e) more)
 
   -- REC_LEN holds its length
@@ -226,6 +232,6 @@ module _ (order : Order) where
   laid-short (c ∷ cs) (x ∷ es) room e =
       omega (
         arith,
-        length-kept c cs x (present es) (first-sized c cs x es room e),
+        length-kept c cs x (present es) (first-measured c cs x es room e),
         laid-short cs es (rest-roomy c cs x es room e) (rest-fit c cs x es room e),
       )
