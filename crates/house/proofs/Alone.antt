@@ -3,21 +3,20 @@
 -- two uses of that.
 -- Assumes nothing.
 use mathlib.Core.Path.{_≡_, refl, ap, sym, subst, _∙_}
-use mathlib.Core.Bool.{Bool, true, false, cond, not, _&&_, _||_, false≢true}
+use mathlib.Core.Bool.{Bool, true, false, cond, not, _&&_, false≢true}
 use mathlib.Core.List.{List, [], _∷_, map}
-use Prim.Native.Nat.{ℕ, zero, suc, _+_, _-_, _/_, _%_, _≤_, _<_}
+use Prim.Native.Nat.{ℕ, _+_, _-_, _≤_, _<_}
 use native.Mathlib.Omega.{arith}
 use borrow.Author.Tests.{lt-ltb, leb-true, leb-false, ltb-true, eqb-true, not-true}
-use lib.Dec.{leb, ltb, eqb}
-use lib.ListN.{length, getD}
-use Rattle.words.specs.Choice.{_unless_then_}
+use lib.Dec.{leb, ltb}
+use lib.ListN.{length}
 use Rattle.words.proofs.Both.{both-left, both-right}
 use Rattle.answers.specs.declared.Answer.{Answer}
 use Rattle.answers.specs.declared.Answer.the-variants.{Done, SlotTaken, FloorTooHigh, OutputTooShort}
 use Rattle.answers.specs.Numbers.{numberOf}
 use Rattle.numbers.specs.Laws.{Bytes}
 use Rattle.rising.specs.Rising.{held}
-use Rattle.rows.specs.Rows.{slotCount, slotSpan, rowKey, heldBy}
+use Rattle.rows.specs.Rows.{slotCount, rowKey, heldBy}
 use Rattle.rows.specs.Counts.{Count, has}
 use Rattle.rows.proofs.Counts.{rows-has}
 use Rattle.session.specs.declared.Verdict.{Verdict}
@@ -31,18 +30,17 @@ use Rattle.house.specs.declared.Answered.{Answered}
 use Rattle.house.specs.House.{rowCount, closedSlot, openedSlot, fresh, keysOf, countsOf, free, sound}
 use Rattle.house.specs.House as house
 use Rattle.house.specs.Deliver.{granted}
-use Rattle.house.specs.Calls.{slotAt, answered, openSlot, closeSlot, roomOf, deliver}
-use Rattle.house.specs.Report.{rowAt, reported, listed}
+use Rattle.house.specs.Calls.{slotAt, answered, openSlot, closeSlot, roomOf}
 use Rattle.house.specs.History.{Call, Open, Deliver, Report, Close, Figured, Reply, Told, Listed, reply, after}
 use Rattle.house.specs.History.{reached, names, named, Sent, AllSent}
 use Rattle.house.specs.Tally.{rowOf}
 use Rattle.house.specs.Laws.{Shaped}
 use Rattle.house.specs.Demands.{asking, needs, promised, Isolated}
 use Rattle.house.proofs.Delivering.{granted-held, granted-below}
-use Rattle.house.proofs.Reporting.{open-within, report-done, report-short}
+use Rattle.house.proofs.Reporting.{open-within, report-short}
 use Rattle.house.proofs.Keeping.{key-low, after-keeps, after-shaped, reached-sound}
-use Rattle.house.proofs.Slots.{rowsAt, Alike, alike-same, alike-on, else-alike, Own, own-deliver, own-close}
-use Rattle.house.proofs.Slots.{own-open, answerBy, rowed, rowsBy-verdict, nextSlot}
+use Rattle.house.proofs.Slots.{rowsAt, Alike, alike-same, alike-on, else-alike, own-deliver, own-close}
+use Rattle.house.proofs.Slots.{own-open, answerBy, rowed, rowsAfter, nextSlot}
 use Rattle.house.proofs.Counting.{paired, rows-held, shut-rows, report-told, reached-shaped, holds}
 use Rattle.house.proofs.Refusing.{open-number}
 
@@ -66,7 +64,7 @@ aloneSlot s Figured = s
 
 abbrev aloneRows : Slot → List Count → Call → List Count
 aloneRows s rows (Open i floor) = rows
-aloneRows s rows (Deliver i rec) = rowsBy-verdict rows (verdictOn (s .session) rec) true
+aloneRows s rows (Deliver i rec) = rowsAfter rows (verdictOn (s .session) rec) true
 aloneRows s rows (Report i long) = rows
 aloneRows s rows (Close i) = []
 aloneRows s rows Figured = rows

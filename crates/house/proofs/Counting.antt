@@ -1,23 +1,20 @@
 -- The second half of demand 2, and the rooms of demand 3, proved (specs/Demands.antt): what the calls and their answers
 -- tell of a slot is what the house holds of it, call by call.
 -- Assumes nothing.
-use mathlib.Core.Path.{_≡_, refl, ap, sym, subst, _∙_}
-use mathlib.Core.Bool.{Bool, true, false, cond, not, _&&_, _||_, false≢true, true≢false}
-use mathlib.Core.List.{List, [], _∷_, _++_, map, map-append}
-use Prim.Native.Nat.{ℕ, zero, suc, _+_, _-_, _/_, _%_, _≤_, _<_}
+use mathlib.Core.Path.{_≡_, refl, ap, sym, _∙_}
+use mathlib.Core.Bool.{Bool, true, false, cond, not, false≢true, true≢false}
+use mathlib.Core.List.{List, [], _∷_, map, map-append}
+use Prim.Native.Nat.{ℕ, zero, suc, _+_, _-_, _%_, _≤_, _<_}
 use native.Mathlib.Nat.{add-zero, zero-add}
 use native.Mathlib.Omega.{arith}
-use borrow.Author.Tests.{lt-ltb, leb-true, ltb-true, eqb-true, eqb-false, eq-eqb, not-true}
+use borrow.Author.Tests.{leb-true, ltb-true, eqb-true, not-true}
 use lib.Dec.{leb, ltb, eqb}
 use lib.ListN.{length, getD, take, replicate, List·getD-map}
-use lib.Seq.{getD-set-same, getD-take, length-take-le, take-suc, take-length}
-use Rattle.words.specs.Choice.{_unless_then_}
-use Rattle.words.specs.Checks.{_else_, numberBy}
+use lib.Seq.{getD-take, length-take-le, take-suc, take-length}
 use Rattle.answers.specs.declared.Answer.{Answer}
-use Rattle.answers.specs.declared.Answer.the-variants.{Done, NoRoom, NotSound}
+use Rattle.answers.specs.declared.Answer.the-variants.{Done, NoRoom}
 use Rattle.answers.specs.Numbers.{numberOf}
 use Rattle.numbers.specs.Laws.{Bytes}
-use Rattle.rising.specs.Rising.{held}
 use Rattle.rows.specs.Rows.{slotCount, slotSpan, headOf, siteOf, binOf, slotRank, rowKey, heldBy, heldFrom}
 use Rattle.rows.specs.Counts.{Count, count, plus, rowsBy}
 use Rattle.rows.proofs.Laws.{held-all, held-ranks, run-within, closed-none}
@@ -28,30 +25,29 @@ use Rattle.session.specs.declared.Verdict.the-variants.{Refused, Taken, Opened,
 use Rattle.session.specs.Session.{partsOf, isStart}
 use Rattle.session.specs.After as session
 use Rattle.session.specs.After.{verdictOn}
-use Rattle.session.specs.Results.{Result, None, Part, resultOf, orderIn, ofRecord}
+use Rattle.session.specs.Results.{resultOf, orderIn, ofRecord}
 use Rattle.session.specs.Laws.{Follows, Begins, Tells}
 use Rattle.session.proofs.Judgement.{judged-begins, judged-tells, judged-refusal}
 use Rattle.house.specs.declared.Slot.{Slot}
 use Rattle.house.specs.declared.House.{House}
-use Rattle.house.specs.declared.Row.{Row}
 use Rattle.house.specs.declared.Answered.{Answered}
-use Rattle.house.specs.House.{rowCount, noSlot, closedSlot, openedSlot, fresh, keysOf, countsOf, free, unfilled}
+use Rattle.house.specs.House.{rowCount, noSlot, closedSlot, fresh, keysOf, countsOf, free, unfilled}
 use Rattle.house.specs.House.{promisedFrom, promised, takenOf, sound}
 use Rattle.house.specs.Deliver.{granted}
-use Rattle.house.specs.Calls.{slotAt, withSlot, openSlot, closeSlot, roomOf, deliver, figuresOf}
-use Rattle.house.specs.Report.{rowAt, reported, listed}
+use Rattle.house.specs.Calls.{slotAt, openSlot, closeSlot, roomOf, deliver}
+use Rattle.house.specs.Report.{rowAt, listed}
 use Rattle.house.specs.History.{Call, Open, Deliver, Report, Close, Figured, Listed, reply, answerOf, after}
 use Rattle.house.specs.History.{reached, said, history, names, Sent, AllSent}
 use Rattle.house.specs.Tally.{Heard, nothing, counting, following, doneBy, isDone, heard, heardFrom, toldOf}
-use Rattle.house.specs.Tally.{rowOf, tallied, holding, owed, over, freeBy, promisedBy}
+use Rattle.house.specs.Tally.{rowOf, holding, owed, over, freeBy, promisedBy}
 use Rattle.house.specs.Laws.{Shaped}
 use Rattle.house.specs.Demands.{TallyReported, FiguresTallied, FreePromised, NeverRefused}
-use Rattle.house.proofs.Calling.{told-within, told-rooms, open-done, figures-done}
+use Rattle.house.proofs.Calling.{told-within, told-rooms, figures-done}
 use Rattle.house.proofs.Delivering.{granted-below}
 use Rattle.house.proofs.Reporting.{told-rises, open-within, report-done}
 use Rattle.house.proofs.Keeping.{fresh-sound, fresh-shaped, after-keeps, after-shaped, reached-sound, told-right}
 use Rattle.house.proofs.Slots.{rowsAt, Alike, else-alike, Own, own-deliver, own-close, own-open, answerBy, rowed}
-use Rattle.house.proofs.Slots.{rowsBy-verdict, nextSlot}
+use Rattle.house.proofs.Slots.{rowsAfter, nextSlot}
 use Rattle.house.proofs.Refusing.{refused-keeps, own-number, open-number, deliver-number, report-number}
 use Rattle.house.proofs.Refusing.{close-number}
 
@@ -166,7 +162,7 @@ module _ (slot : ℕ) (t : Heard) (h : House) (p : Agree slot t h) where
     where
       go : (b : Bool) → o .answer ≡ answerBy (Wanted next rank key) b
           → slotAt (o .house) slot ≡ nextSlot (slotAt h slot) (Wanted next rank key) b
-          → rowsAt (o .house) slot ≡ rowsBy-verdict (rowsAt h slot) (Wanted next rank key) b
+          → rowsAt (o .house) slot ≡ rowsAfter (rowsAt h slot) (Wanted next rank key) b
           → Agree slot (following t rec) (o .house)
       go true is stands rows =
           agree-by rec (o .house) next (plus key (rowsAt h slot)) opened (rw stands opened) (rw stands) (rw stands)

@@ -1,15 +1,15 @@
 -- The statements of specs/Laws.antt, proved: a house stays sound. What one slot's call changes is told once, for any
 -- new slot and any new rows, by what it leaves to the others.
 -- Assumes nothing.
-use mathlib.Core.Path.{_≡_, refl, ap, sym, subst, _∙_}
-use mathlib.Core.Bool.{Bool, true, false, cond, not, _&&_, _||_, false≢true}
-use mathlib.Core.List.{List, [], _∷_, map}
-use Prim.Native.Nat.{ℕ, zero, suc, _+_, _-_, _*_, _/_, _%_, _≤_, _<_}
+use mathlib.Core.Path.{_≡_, refl, ap, sym, _∙_}
+use mathlib.Core.Bool.{Bool, true, false, cond, not, _||_}
+use mathlib.Core.List.{List, [], _∷_}
+use Prim.Native.Nat.{ℕ, zero, suc, _+_, _-_, _/_, _%_, _≤_, _<_}
 use native.Mathlib.Nat.{add-zero, zero-add}
 use native.Mathlib.Omega.{arith}
 use borrow.Author.Tests.{le-leb, lt-ltb, leb-true, ltb-true, ltb-false, eq-eqb, ne-eqb, not-true}
 use lib.Dec.{leb, ltb, eqb}
-use lib.ListN.{length, getD, take, set, replicate, length-set, List·getD-map}
+use lib.ListN.{length, getD, set, replicate, length-set, List·getD-map}
 use lib.Seq.{map-set-same, length-take-le, getD-set-same, getD-set-other}
 use Rattle.words.specs.Choice.{_unless_then_}
 use Rattle.words.proofs.Both.{both-left, both-right}
@@ -28,19 +28,19 @@ use Rattle.session.specs.declared.Verdict.{Verdict}
 use Rattle.session.specs.declared.Verdict.the-variants.{Refused, Taken, Opened, Wanted}
 use Rattle.session.specs.Laws as verdict
 use Rattle.session.specs.Laws.{KeyRight}
-use Rattle.session.specs.After.{after, verdictOn, partClosed}
+use Rattle.session.specs.After.{after, verdictOn}
 use Rattle.session.specs.Session as session
-use Rattle.session.specs.Session.{mostOpen, mostResults, pastParts, begun, nothingYet}
+use Rattle.session.specs.Session.{mostOpen, mostResults, pastParts}
 use Rattle.session.proofs.Judgement.{begun-sound, judged-sound, judged-counts, judged-few, judged-key, judged-long}
 use Rattle.house.specs.declared.Slot.{Slot}
 use Rattle.house.specs.declared.House.{House}
 use Rattle.house.specs.declared.Answered.{Answered}
 use Rattle.house.specs.House.{rowCount, noSlot, closedSlot, openedSlot, fresh, keysOf, countsOf, free, unfilled}
 use Rattle.house.specs.House.{promisedFrom, promised, takenOf, rowsSound, slotSound, slotsSound, sound}
-use Rattle.house.specs.Deliver.{Outcome, core, outcome, granted, rowed, rowTaken, resulted, resultedIf, settled}
+use Rattle.house.specs.Deliver.{core, granted, rowTaken, resultedIf, settled}
 use Rattle.house.specs.Deliver.{delivered, LentCore}
-use Rattle.house.specs.Calls.{slotAt, withSlot, answered, openSlot, closed, closeSlot, roomOf, withOutcome}
-use Rattle.house.specs.Calls.{deliveredTo, deliver}
+use Rattle.house.specs.Calls.{slotAt, withSlot, openSlot, closed, closeSlot, roomOf, withOutcome}
+use Rattle.house.specs.Calls.{deliver}
 use Rattle.house.specs.Laws.{Shaped, FreshSound, OpenKeeps, CloseKeeps, DeliverKeeps, BelowFloor}
 use Rattle.house.specs.Laws.{ReachedSound}
 use Rattle.house.specs.History as calls

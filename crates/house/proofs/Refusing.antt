@@ -1,13 +1,13 @@
 -- Demand 1 and the first half of demand 2, proved (specs/Demands.antt): a refusal changes nothing, its number is the
 -- first check that fails, and a record is accepted exactly if none does.
 -- Assumes nothing.
-use mathlib.Core.Path.{_≡_, refl, ap, sym, subst, _∙_}
-use mathlib.Core.Bool.{Bool, true, false, cond, not, _&&_, false≢true}
+use mathlib.Core.Path.{_≡_, refl, ap, sym, _∙_}
+use mathlib.Core.Bool.{Bool, true, false, not, _&&_, false≢true}
 use mathlib.Core.List.{List, [], _∷_, _++_, append-assoc}
 use Prim.Native.Nat.{ℕ, zero, suc, _+_, _-_, _≤_, _<_}
 use native.Mathlib.Omega.{arith}
 use lib.Dec.{leb, ltb, eqb}
-use lib.ListN.{length, getD, take, drop, set, length-append}
+use lib.ListN.{length, drop, set, length-append}
 use lib.Seq.{set-getD}
 use Rattle.words.specs.Choice.{_unless_then_}
 use Rattle.words.specs.Checks.{_else_, numberBy}
@@ -17,7 +17,6 @@ use Rattle.answers.specs.declared.Answer.the-variants as answer
 use Rattle.answers.specs.declared.Answer.the-variants.{Done}
 use Rattle.answers.specs.Numbers.{numberOf}
 use Rattle.rows.specs.Rows.{slotCount, rowKey, heldBy}
-use Rattle.session.specs.declared.Session.{Session}
 use Rattle.session.specs.declared.Verdict.{Verdict}
 use Rattle.session.specs.declared.Verdict.the-variants.{Refused, Taken, Opened, Wanted}
 use Rattle.session.specs.Session.{partsOf}
@@ -34,7 +33,7 @@ use Rattle.house.specs.House.{rowCount, noSlot, keysOf, free, promised, 
 use Rattle.house.specs.Deliver.{core, granted, rowTaken, resultedIf, settled, delivered}
 use Rattle.house.specs.Calls.{slotAt, withSlot, openSlot, closeSlot, roomOf, withOutcome, deliver, figuresOf}
 use Rattle.house.specs.Report.{rowAt, reported, listed, filled}
-use Rattle.house.specs.History.{Call, Open, Deliver, Report, Close, Figured, reply, answerOf, after}
+use Rattle.house.specs.History.{Open, Deliver, Report, Close, Figured}
 use Rattle.house.specs.Demands.{RefusedKeeps, RefusedWrites, ReportWrites, roomFor, Accepted}
 use Rattle.house.specs.Demands.{OpenNumber, DeliverNumber, ReportNumber, CloseNumber, FiguresNumber}
 use Rattle.house.proofs.Reporting.{few}

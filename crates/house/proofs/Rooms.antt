@@ -2,19 +2,19 @@
 -- house that is reached.
 -- Assumes nothing.
 use mathlib.Core.Path.{_≡_, refl, ap, sym, _∙_}
-use mathlib.Core.Bool.{Bool, true, false, not, cond, false≢true}
-use mathlib.Core.List.{List, [], _∷_}
-use Prim.Native.Nat.{ℕ, zero, suc, _-_, _≤_, _<_}
+use mathlib.Core.Bool.{Bool, true, false, not, false≢true}
+use mathlib.Core.List.{List}
+use Prim.Native.Nat.{ℕ, _-_, _<_}
 use native.Mathlib.Omega.{arith}
 use lib.Dec.{leb, ltb}
-use lib.ListN.{length, getD, take, List·getD-map}
+use lib.ListN.{length, getD, List·getD-map}
 use lib.Seq.{getD-take}
 use Rattle.words.specs.Choice.{_unless_then_}
 use Rattle.answers.specs.declared.Answer.{Answer}
 use Rattle.answers.specs.declared.Answer.the-variants.{NotSound}
 use Rattle.answers.specs.Numbers.{numberOf}
 use Rattle.rising.proofs.Laws.{rising-apart}
-use Rattle.rows.specs.Rows.{slotCount, slotOf, rowKey, heldBy, rowRight, rowsRight}
+use Rattle.rows.specs.Rows.{slotCount, slotOf, rowKey, heldBy}
 use Rattle.rows.proofs.Laws.{row-taken, right-at}
 use Rattle.session.specs.declared.Verdict.{Verdict}
 use Rattle.session.specs.declared.Verdict.the-variants.{Refused, Taken, Opened, Wanted}
@@ -32,10 +32,9 @@ use Rattle.house.specs.Calls.{slotAt, openSlot, closeSlot, deliver, room
 use Rattle.house.specs.Report.{reported}
 use Rattle.house.specs.History.{Call, Open, Deliver, Report, Close, Figured, reply, answerOf, reached, AllSent}
 use Rattle.house.specs.Demands.{NeverUnsound, RowsHeld, KeysDiffer}
-use Rattle.house.proofs.Calling.{told-within, figures-done}
 use Rattle.house.proofs.Reporting.{told-rises}
 use Rattle.house.proofs.Keeping.{reached-sound, told-right}
-use Rattle.house.proofs.Counting.{reached-shaped, paired, keys-long}
+use Rattle.house.proofs.Counting.{reached-shaped, keys-long}
 
 -- ---- 15 is never given
 

@@ -2,21 +2,18 @@
 -- over sequences of calls. Of a house, a slot is what stands in its place and its rows as a list.
 -- Assumes nothing.
 use mathlib.Core.Path.{_≡_, refl, ap, sym, subst, _∙_}
-use mathlib.Core.Bool.{Bool, true, false, cond, not, _&&_, _||_, false≢true}
-use mathlib.Core.List.{List, [], _∷_}
-use Prim.Native.Nat.{ℕ, _+_, _-_, _*_, _/_, _%_, _≤_, _<_}
+use mathlib.Core.Bool.{Bool, true, false, cond, not}
+use mathlib.Core.List.{List, []}
+use Prim.Native.Nat.{ℕ, _-_, _%_, _<_}
 use native.Mathlib.Omega.{arith}
 use borrow.Author.Tests.{lt-ltb, ltb-true, eq-eqb, ne-eqb, eqb-false}
 use lib.Dec.{leb, ltb, eqb}
-use lib.ListN.{length, getD, take, set}
-use lib.Seq.{getD-set-same, getD-set-other, set-getD}
-use Rattle.words.specs.Choice.{_unless_then_}
+use lib.ListN.{getD, set}
+use lib.Seq.{getD-set-same, getD-set-other}
 use Rattle.answers.specs.declared.Answer.{Answer}
-use Rattle.answers.specs.declared.Answer.the-variants.{Done, NoRoom, NoSuchSlot, SlotTaken, SlotClosed, NotSound}
-use Rattle.answers.specs.declared.Answer.the-variants.{FloorTooHigh}
+use Rattle.answers.specs.declared.Answer.the-variants.{Done, NoRoom}
 use Rattle.numbers.specs.Laws.{Bytes}
-use Rattle.rising.specs.Rising.{held}
-use Rattle.rows.specs.Rows.{slotCount, slotSpan, slotOf, rowKey, Kept, counted, keysUsed, countsUsed}
+use Rattle.rows.specs.Rows.{slotCount, slotSpan, rowKey, counted, keysUsed, countsUsed}
 use Rattle.rows.specs.Counts.{Count, plus, rowsBy}
 use Rattle.rows.proofs.Counts.{counted-rows-by, dropped-rows-by}
 use Rattle.session.specs.declared.Session.{Session}
@@ -26,19 +23,18 @@ use Rattle.session.specs.declared.Verdict.the-variants.{Refused, Taken, Opened,
 use Rattle.session.specs.Laws.{KeyRight}
 use Rattle.session.specs.After as session
 use Rattle.session.specs.After.{verdictOn}
-use Rattle.session.specs.Session.{pastParts}
 use Rattle.session.proofs.Judgement.{judged-key}
 use Rattle.house.specs.declared.Slot.{Slot}
 use Rattle.house.specs.declared.House.{House}
 use Rattle.house.specs.declared.Answered.{Answered}
 use Rattle.house.specs.House.{rowCount, noSlot, closedSlot, openedSlot, keysOf, countsOf, free, promised, sound}
-use Rattle.house.specs.Deliver.{Outcome, core, granted, rowTaken, resultedIf, settled, delivered}
-use Rattle.house.specs.Calls.{slotAt, withSlot, answered, openSlot, closed, closeSlot, roomOf, withOutcome}
-use Rattle.house.specs.Calls.{deliveredTo, deliver}
+use Rattle.house.specs.Deliver.{core, granted, rowTaken, resultedIf, settled, delivered}
+use Rattle.house.specs.Calls.{slotAt, openSlot, closeSlot, roomOf, withOutcome}
+use Rattle.house.specs.Calls.{deliver}
 use Rattle.house.specs.History.{Call, Open, Deliver, Report, Close, Figured, after, names, Sent}
 use Rattle.house.specs.Laws.{Shaped}
 use Rattle.house.proofs.Calling.{deliver-judged}
-use Rattle.house.proofs.Keeping.{unless-by, keys-kept, there, key-low, key-slot, room, withSession}
+use Rattle.house.proofs.Keeping.{unless-by, keys-kept, key-low, key-slot, room, withSession}
 
 -- a slot's rows
 abbrev pub rowsAt : House → ℕ → List Count
@@ -76,11 +72,11 @@ sessionBy s (Taken next) b = session.after s (Taken next)
 sessionBy s (Opened next rank part) b = session.after s (Opened next rank part)
 sessionBy s (Wanted next rank key) b = cond b (session.after s (Wanted next rank key)) s
 
-abbrev pub rowsBy-verdict : List Count → Verdict → Bool → List Count
-rowsBy-verdict rows (Refused a) b = rows
-rowsBy-verdict rows (Taken next) b = rows
-rowsBy-verdict rows (Opened next rank part) b = rows
-rowsBy-verdict rows (Wanted next rank key) b = cond b (plus key rows) rows
+abbrev pub rowsAfter : List Count → Verdict → Bool → List Count
+rowsAfter rows (Refused a) b = rows
+rowsAfter rows (Taken next) b = rows
+rowsAfter rows (Opened next rank part) b = rows
+rowsAfter rows (Wanted next rank key) b = cond b (plus key rows) rows
 
 abbrev pub nextSlot : Slot → Verdict → Bool → Slot
 nextSlot s v b = record { taken = s .taken; floor = s .floor; session = sessionBy (s .session) v b }
@@ -100,7 +96,7 @@ module _ (h : House) (slot : ℕ) (shape : Shaped h) (inside : slot < slotCount)
 pub record Own (h : House) (slot : ℕ) (v : Verdict) (o : Answered) : Type 0 where
   pub answer : o .answer ≡ answerBy v (rowed h slot v)
   pub stands : slotAt (o .house) slot ≡ nextSlot (slotAt h slot) v (rowed h slot v)
-  pub rows : rowsAt (o .house) slot ≡ rowsBy-verdict (rowsAt h slot) v (rowed h slot v)
+  pub rows : rowsAt (o .house) slot ≡ rowsAfter (rowsAt h slot) v (rowed h slot v)
 
 module _ (h : House) (slot : ℕ) (shape : Shaped h) (e : sound h ≡ true) (inside : slot < slotCount)
     (t : slotAt h slot .taken ≡ true) where

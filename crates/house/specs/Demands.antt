@@ -6,14 +6,13 @@
 --   promised   the replies to a session while it is open and needs no more rows than its floor
 -- Assumes nothing.
 use mathlib.Core.Path.{_≡_}
-use mathlib.Core.Bool.{Bool, true, false, cond, not, _&&_}
-use mathlib.Core.List.{List, [], _∷_, _++_, map}
+use mathlib.Core.Bool.{Bool, true, cond, not, _&&_}
+use mathlib.Core.List.{List, [], _∷_, _++_}
 use Prim.Native.Nat.{ℕ, _+_, _-_, _≤_, _<_}
 use lib.Dec.{leb, ltb, eqb}
 use lib.ListN.{length, getD, drop}
 use Rattle.words.specs.Checks.{_else_, numberBy}
 use Rattle.numbers.specs.Laws.{Bytes}
-use Rattle.answers.specs.declared.Answer.{Answer}
 use Rattle.answers.specs.declared.Answer.the-variants.{Done, NoRoom, NotSound}
 use Rattle.answers.specs.Numbers.{numberOf}
 use Rattle.rows.specs.Rows.{slotCount, slotOf, rowKey, heldBy}
@@ -31,7 +30,7 @@ use Rattle.house.specs.Calls.{slotAt, openSlot, closeSlot, deliver, room
 use Rattle.house.specs.Report.{rowAt, reported, listed, filled}
 use Rattle.house.specs.History.{Call, Open, Deliver, Report, Close, Figured, Reply, Listed, answerOf, reply}
 use Rattle.house.specs.History.{after, reached, history, names, named, Sent, AllSent}
-use Rattle.house.specs.Tally.{toldOf, tallied, holding, owed, over, freeBy, promisedBy}
+use Rattle.house.specs.Tally.{toldOf, tallied, holding, freeBy, promisedBy}
 
 -- ---- demand 1: a refusal changes nothing
 

@@ -23,7 +23,7 @@ use Rattle.house.specs.declared.House.{House}
 use Rattle.house.specs.declared.Slot.{Slot}
 use Rattle.house.specs.House.{rowCount, closedSlot, fresh}
 use Rattle.house.specs.History.{Call, Open, Deliver, Close, history}
-use Rattle.marked.specs.Night.{far, mir, pir, prr, begins, answersOf}
+use Rattle.marked.specs.Night.{prr, begins, answersOf}
 use Rattle.marked.specs.Night as night
 
 -- the numbers that calls of a house are answered with; the bytes that a line is read into, or the number it is refused

@@ -9,11 +9,11 @@
 use mathlib.Core.Path.{_≡_}
 use mathlib.Core.List.{List, [], _∷_, _++_, map}
 use Prim.Native.Nat.{ℕ}
-use lib.ListN.{length, replicate}
+use lib.ListN.{replicate}
 use Rattle.answers.specs.declared.Answer.the-variants.{Done}
 use Rattle.answers.specs.Numbers.{numberOf}
 use Rattle.house.specs.House.{fresh}
-use Rattle.house.specs.History.{Call, Open, Deliver, Report, Said, Told, Listed, answerOf, after, reached, history}
+use Rattle.house.specs.History.{Call, Open, Deliver, Report, Said, Told, Listed, answerOf, after, history}
 use Rattle.house.specs.Tally.{tallied}
 use Rattle.house.specs.Demands.{promised}
 
