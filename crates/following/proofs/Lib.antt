@@ -1,3 +1,4 @@
+pub mod First
 pub mod Laws
 pub mod Cuts
 pub mod Alone

@@ -6,18 +6,21 @@ use crate::saying::put_refused;
 use crate::saying::put_row;
 use crate::saying::put_too_long;
 use crate::saying::put_unfinished;
-use calls::deliver;
 use calls::judge_report;
 use calls::row_at;
+use core::is_sound;
 use house::House;
 use house::Slot;
 use order::Place;
 use session::Session;
+use session::Verdict;
+use session::judge_first;
 ghost use mathlib.Core.Path.{_≡_};
 ghost use Prim.Native.Nat.{_+_, _≤_};
 ghost use lib.ListN.{length, take};
 ghost use Rattle.answers.specs.Numbers.{numberOf};
 ghost use Rattle.placing.specs.Placed.{Put};
+ghost use Rattle.session.specs.Results.{verdictNumber};
 ghost use Rattle.following.specs.Text.{reportLines, isEnded, leftOver, endedWith, ended};
 ghost use Rattle.following.specs.Lent.{streamHouse, progressOf, pastCount};
 ghost use Rattle.following.specs.Saying.{mostText};
@@ -72,18 +75,32 @@ fn is_ended(place: Place) -> bool
     }
 }
 
-// What bytes left over are refused with: 3, but the first record is all bytes where they are fewer than six.
+// The number of a verdict on a record by itself.
+fn number_of(v: Verdict) -> u8
+    ensures { λ r. ⌜ r ≡ verdictNumber v ⌝ }
+{
+    match v {
+        Verdict::Refused(answer) => answers::number(answer),
+        Verdict::Taken(_) => 0,
+        Verdict::Opened(_, _, _) => 0,
+        Verdict::Wanted(_, _, _) => 0,
+    }
+}
+
+// What bytes left over are refused with: 3, but the first record is all bytes where they are fewer than six. It is
+// judged by itself, so that the walk over a chunk alone delivers, and its code stands in one place.
 fn left_over(s: Stream, bytes: &[u8]) -> u8
     ensures { λ r. ⌜ r ≡ numberOf (leftOver (streamHouse s) (now (bytes .entry))) ⌝ }
 {
     let st = s.standing;
     let place = st.place;
-    if is_start(place) {
-        let done = deliver(house_of(s), 0, bytes);
-        let answer = done.answer;
-        answers::number(answer)
+    if !is_start(place) {
+        return 3;
+    }
+    if is_sound(house_of(s)) {
+        number_of(judge_first(st, bytes))
     } else {
-        3
+        15
     }
 }
 

@@ -46,7 +46,8 @@ fn judge_ordered(st: Standing, rec: &[u8], ordering: Ordering) -> Verdict
     }
 }
 
-pub(crate) fn judge_first(st: Standing, rec: &[u8]) -> Verdict
+// What a first record does to any session that stands at its start.
+pub fn judge_first(st: Standing, rec: &[u8]) -> Verdict
     ensures { λ r. ⌜ r ≡ judgeFirst st (now (rec .entry)) ⌝ }
 {
     if rec.len() < 4 {

@@ -15,6 +15,7 @@ ghost use Rattle.session.specs.Session.{Kept, isStart, begun};
 ghost use Rattle.session.specs.Judge.{judge};
 ghost use Rattle.session.specs.Laws.{Within};
 ghost use Rattle.session.specs.After.{partOpened, partClosed, after, judged};
+pub use first::judge_first;
 pub use sound::is_sound;
 pub use sound::nothing_yet;
 pub use sound::parts_right;

@@ -1,40 +1,64 @@
--- `following::ending::left_over` meets its contract: the first record is delivered as it is, a later one is 3.
+-- `following::ending::left_over` meets its contract: a first record is judged by itself, a later one is 3.
 -- Assumes nothing.
-use mathlib.Core.Path.{sym, _∙_}
+use mathlib.Core.Path.{_≡_, refl, sym, _∙_}
+use mathlib.Core.Bool.{true}
 use borrow.Author.Needs.{needs}
+use borrow.Author.Tests.{not-true, not-false}
+use Rattle.session.specs.Session.{isStart}
+use Rattle.house.specs.House.{sound}
+use Rattle.following.specs.Lent.{streamHouse}
+use Rattle.following.proofs.First.{first-answer, unsound-answer}
 use Rattle.following.proofs.ending.left_over.Statement.{statement}
 use Rattle.following.proofs.ending.left_over.Tie as tie
 
 is-start-requires : tie.Need-is-start-requires
 is-start-requires c κs = search needs
 
+returns : tie.Need-returns
+returns c = rw (sym (c .before .is-start .ensures) ∙ not-true _ (c .if1 .taken))
+
 house-of-requires : tie.Need-house-of-requires
 house-of-requires c κs = search needs
 
-deliver-requires : tie.Need-deliver-requires
-deliver-requires c κs = search needs
+is-sound-requires : tie.Need-is-sound-requires
+is-sound-requires c κs = search needs
 
-number-requires : tie.Need-number-requires
-number-requires c κs = search needs
+judge-first-requires : tie.Need-judge-first-requires
+judge-first-requires c κs = search needs
 
-returns : tie.Need-returns
-returns c =
-    let delivered = c .before in
-    let housed = delivered .before in
-    let asked = housed .before .before in
-    let first = sym (asked .is-start .ensures) ∙ housed .before .if1 .taken in
-    rw (first, ← housed .house-of .ensures, ← delivered .deliver .ensures) (c .number .ensures)
+number-of-requires : tie.Need-number-of-requires
+number-of-requires c κs = search needs
 
 returns-2 : tie.Need-returns-2
-returns-2 c = rw (sym (c .before .is-start .ensures) ∙ c .if1 .left)
+returns-2 c =
+    let judged = c .before in
+    let fine = judged .before in
+    let housed = fine .before .before in
+    let first = housed .before in
+    let starts = sym (first .before .is-start .ensures) ∙ not-false _ (first .if1 .left) in
+    let is-fine = sym (fine .before .is-sound .ensures) ∙ fine .if2 .taken in
+    let told = rw (housed .house-of .ensures) at is-fine in
+    let answer = first-answer _ _ told refl starts in
+    rw starts (c .number-of .ensures ∙ rw (judged .judge-first .ensures) (sym answer))
+
+returns-3 : tie.Need-returns-3
+returns-3 c =
+    let housed = c .before .before in
+    let first = housed .before in
+    let starts = sym (first .before .is-start .ensures) ∙ not-false _ (first .if1 .left) in
+    let wrong = sym (c .before .is-sound .ensures) ∙ c .if2 .left in
+    let told = rw (housed .house-of .ensures) at wrong in
+    rw starts (sym (unsound-answer _ _ told))
 
 pub left-over-spec : {M : Type 1} → statement M
 left-over-spec =
     tie.close
     (tie.spec
     is-start-requires
-    house-of-requires
-    deliver-requires
-    number-requires
     returns
-    returns-2)
+    house-of-requires
+    is-sound-requires
+    judge-first-requires
+    number-of-requires
+    returns-2
+    returns-3)
