@@ -9,6 +9,7 @@ use native.Mathlib.Numerals.{add-one}
 use native.Mathlib.Omega.{arith}
 use lib.ListN.{length, getD, take, drop, set, length-take, length-drop, length-set}
 use lib.Seq.{take-suc, take-suc-set, drop-set-lt, drop-drop, getD-drop, take-add, length-take-le, take-nil, drop-nil}
+use Rattle.session.specs.declared.Standing.{Standing}
 use Rattle.session.specs.Session.{mostOpen}
 use Rattle.house.specs.House.{rowCount, sound}
 use Rattle.following.specs.declared.Fate.{Fate}
@@ -16,7 +17,7 @@ use Rattle.following.specs.declared.Fate.the-variants.{Going, Refused, T
 use Rattle.following.specs.declared.Stream.{Stream}
 use Rattle.following.specs.declared.Stage.{Stage}
 use Rattle.following.specs.Following.{mostLength, Progress, progress, followed}
-use Rattle.following.specs.Lent.{houseOf, streamHouse, progressOf, walked, rest, pastCount, staged, Right, Walkable}
+use Rattle.following.specs.Lent.{houseOf, streamHouse, progressOf, stageStanding, walked, rest, pastCount, staged, Right, Walkable}
 use Rattle.following.specs.Lent.{Onward, Followed}
 use Rattle.following.proofs.Laws.{followed-chunks}
 use Rattle.following.proofs.Cuts.{stays-refused, stays-long}
@@ -147,7 +148,7 @@ module _ (s : Stream) (buf : List ℕ) (got : ℕ) (right : Right s buf) (goes :
               keys = ks;
               counts = cs;
               used = w .used;
-              standing = w .standing;
+              standing = stageStanding w;
               parts = ps;
               accepted = w .accepted;
               fate = w .fate;
@@ -178,3 +179,18 @@ module _ (s : Stream) (buf : List ℕ) (got : ℕ) (right : Right s buf) (goes :
           where
             begun-fits : w .accepted + held ≤ s .accepted + (s .held + got)
             begun-fits = omega (arith, count, size, (rw is at (on .fits)))
+
+        -- .. the standing as it was put together again
+        pub chunk-told : (st : Standing) → st ≡ stageStanding w
+            → Followed s buf got
+            (record {
+              keys = ks;
+              counts = cs;
+              used = w .used;
+              standing = st;
+              parts = ps;
+              accepted = w .accepted;
+              fate = w .fate;
+              held = held;
+            }) new
+        chunk-told st stands = rw stands chunk-followed

@@ -87,7 +87,7 @@ module _ (st : Standing) (ys ts : List ℕ) (short : length ys < needed st (ys +
           (omega (arith, same, short), omega (arith, same, low))
 
 -- .. and where it is the whole record
-whole-needed : (st : Standing) (ys ts : List ℕ) → length ys ≡ needed st (ys ++ ts) → needed st ys ≡ length ys
+pub whole-needed : (st : Standing) (ys ts : List ℕ) → length ys ≡ needed st (ys ++ ts) → needed st ys ≡ length ys
 whole-needed st ys ts is = go (isStart (st .place)) refl
   where
     go : (a : Bool) → isStart (st .place) ≡ a → needed st ys ≡ length ys

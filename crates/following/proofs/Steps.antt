@@ -24,7 +24,7 @@ use Rattle.following.specs.declared.Fate.{Fate}
 use Rattle.following.specs.declared.Fate.the-variants.{Going, Refused, TooLong}
 use Rattle.following.specs.declared.Stage.{Stage}
 use Rattle.following.specs.Following.{mostLength, needed, Progress, progress, answered, followed}
-use Rattle.following.specs.Lent.{houseOf, aloneRoom, walkHouse, walked, rest, pastCount, ahead}
+use Rattle.following.specs.Lent.{houseOf, aloneRoom, stageStanding, walkHouse, walked, rest, pastCount, ahead}
 use Rattle.following.specs.Lent.{Walkable, Onward, Stepped}
 use Rattle.following.proofs.Cuts.{needed-some, waiting, record-taken, record-long, answered-done, answered-not}
 use Rattle.following.proofs.Cuts.{stays-refused}
@@ -53,6 +53,11 @@ part-bytes bytes at n low k = go (ltb k n) refl
 pub rest-all : (bytes : List ℕ) (at : ℕ) → take (length bytes - at) (drop at bytes) ≡ drop at bytes
 rest-all bytes at = take-all (length bytes - at) (drop at bytes) (omega (arith, length-drop at bytes))
 
+-- .. tells how long the record at its start is
+pub told-needed : (s : Stage) (bytes : List ℕ) {from : Standing} → from ≡ stageStanding s → {n : ℕ}
+    → n ≡ needed from (take (length bytes - s .at) (drop (s .at) bytes)) → n ≡ needed (stageStanding s) (rest s bytes)
+told-needed s bytes stands is = is ∙ rw (stands, rest-all bytes (s .at))
+
 -- nothing is left at the end
 none-left : (bytes : List ℕ) (p : Progress) → followed p (drop (length bytes) bytes) ≡ p
 unfolding followed
@@ -76,17 +81,24 @@ module _ (keys counts parts : List ℕ) (s : Stage) (bytes : List ℕ) (w : Walk
   before = rw looking
 
   -- what is lent to a delivery
-  pub lent-step : {room : Room} → room ≡ aloneRoom → LentCore room keys counts (s .used) (s .standing) parts
-  lent-step seen = rw seen (lent-alone keys counts (s .used) (s .standing) parts (w .fine) (w .long) (w .paired) (w .cells))
+  pub lent-step : {room : Room} → room ≡ aloneRoom → {from : Standing} → from ≡ stageStanding s
+      → LentCore room keys counts (s .used) from parts
+  lent-step seen stands =
+      rw (seen, stands)
+      (lent-alone keys counts (s .used) (stageStanding s) parts (w .fine) (w .long) (w .paired) (w .cells))
 
   -- ---- a record that is not whole
 
-  module _ (n : ℕ) (is : n ≡ needed (s .standing) (rest s bytes)) where
+  module _ (n : ℕ) (is : n ≡ needed (stageStanding s) (rest s bytes)) where
     pub step-short : n ≤ mostLength → length bytes - s .at < n
         → Stepped keys counts parts s keys counts parts
         (record {
           used = s .used;
-          standing = s .standing;
+          place = s .place;
+          order = s .order;
+          opened = s .opened;
+          pcr = s .pcr;
+          results = s .results;
           accepted = s .accepted;
           fate = Going;
           at = s .at;
@@ -122,7 +134,11 @@ module _ (keys counts parts : List ℕ) (s : Stage) (bytes : List ℕ) (w : Walk
         → Stepped keys counts parts s keys counts parts
         (record {
           used = s .used;
-          standing = s .standing;
+          place = s .place;
+          order = s .order;
+          opened = s .opened;
+          pcr = s .pcr;
+          results = s .results;
           accepted = s .accepted;
           fate = TooLong;
           at = length bytes;
@@ -157,27 +173,27 @@ module _ (keys counts parts : List ℕ) (s : Stage) (bytes : List ℕ) (w : Walk
     -- ---- a record that is there
 
     module _ (low : n ≤ mostLength) (there : s .at + n ≤ length bytes) (range : Bytes bytes) {room : Room}
-        (seen : room ≡ aloneRoom) (a : Answer) (ks cs : List ℕ) (used : ℕ) (st : Standing) (ps : List ℕ)
+        (seen : room ≡ aloneRoom) {from : Standing} (stands : from ≡ stageStanding s) (a : Answer) (ks cs : List ℕ) (used : ℕ) (st : Standing) (ps : List ℕ)
         (did : outcome a ks cs used st ps
-        ≡ delivered room (core keys counts (s .used) (s .standing) parts) (take (s .at + n - s .at) (drop (s .at) bytes)))
+        ≡ delivered room (core keys counts (s .used) from parts) (take (s .at + n - s .at) (drop (s .at) bytes)))
         (long : length ks ≡ rowCount) (paired : length cs ≡ rowCount) (cells : length ps ≡ 32) where
       size : s .at + n - s .at ≡ n
       size = omega arith
 
       -- the delivery, as the lent core has it
       did-alone : outcome a ks cs used st ps
-          ≡ delivered aloneRoom (core keys counts (s .used) (s .standing) parts) (take n (rest s bytes))
-      did-alone = did ∙ rw (seen, size)
+          ≡ delivered aloneRoom (core keys counts (s .used) (stageStanding s) parts) (take n (rest s bytes))
+      did-alone = did ∙ rw (seen, stands, size)
 
       delivers : deliver (walkHouse keys counts parts s) 0 (take n (rest s bytes))
           ≡ calls.answered a (houseOf ks cs used st ps)
       delivers =
-          deliver-alone keys counts (s .used) (s .standing) parts (w .fine) (w .long) (w .paired) (w .cells)
+          deliver-alone keys counts (s .used) (stageStanding s) parts (w .fine) (w .long) (w .paired) (w .cells)
           (take n (rest s bytes)) (outcome a ks cs used st ps) did-alone
 
       fine-after : sound (houseOf ks cs used st ps) ≡ true
       fine-after =
-          sound-after keys counts (s .used) (s .standing) parts (w .fine) (w .long) (w .paired) (w .cells)
+          sound-after keys counts (s .used) (stageStanding s) parts (w .fine) (w .long) (w .paired) (w .cells)
           (take n (rest s bytes)) (outcome a ks cs used st ps) did-alone (part-bytes bytes (s .at) n range)
 
       taken : followed (walked keys counts parts s []) (rest s bytes)
@@ -192,7 +208,11 @@ module _ (keys counts parts : List ℕ) (s : Stage) (bytes : List ℕ) (w : Walk
           → Stepped keys counts parts s ks cs ps
           (record {
             used = used;
-            standing = st;
+            place = st .place;
+            order = st .order;
+            opened = st .opened;
+            pcr = st .pcr;
+            results = st .results;
             accepted = s .accepted + 1;
             fate = Going;
             at = s .at + n;
@@ -200,7 +220,7 @@ module _ (keys counts parts : List ℕ) (s : Stage) (bytes : List ℕ) (w : Walk
           }) bytes
       step-accepted e =
           let h = houseOf ks cs used st ps in
-          let some = needed-some (s .standing) (rest s bytes) in
+          let some = needed-some (stageStanding s) (rest s bytes) in
           record {
             onward =
                 record {
@@ -230,7 +250,11 @@ module _ (keys counts parts : List ℕ) (s : Stage) (bytes : List ℕ) (w : Walk
           → Stepped keys counts parts s ks cs ps
           (record {
             used = used;
-            standing = st;
+            place = st .place;
+            order = st .order;
+            opened = st .opened;
+            pcr = st .pcr;
+            results = st .results;
             accepted = s .accepted;
             fate = Refused number;
             at = length bytes;

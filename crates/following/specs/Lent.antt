@@ -5,10 +5,13 @@
 --   walked                 .. while its records are walked over
 -- Assumes nothing.
 use mathlib.Core.Path.{_≡_}
-use mathlib.Core.Bool.{Bool, true, false, cond}
+use mathlib.Core.Bool.{Bool, true, false, cond, _&&_, _||_}
 use mathlib.Core.List.{List, [], _∷_}
 use Prim.Native.Nat.{ℕ, _+_, _-_, _≤_, _<_}
+use lib.Dec.{eqb}
 use lib.ListN.{length, take, drop, replicate}
+use Rattle.order.specs.declared.Place.{Place}
+use Rattle.order.specs.declared.Place.the-variants.{Start, Header, Lot, Setup, Body, Ended}
 use Rattle.session.specs.declared.Standing.{Standing}
 use Rattle.house.specs.declared.House.{House}
 use Rattle.house.specs.declared.Slot.{Slot}
@@ -46,8 +49,12 @@ pub record Right (s : Stream) (buf : List ℕ) : Type 0 where
 
 -- ---- while records are walked over
 
+abbrev pub stageStanding : Stage → Standing
+stageStanding s =
+    record { place = s .place; order = s .order; opened = s .opened; pcr = s .pcr; results = s .results }
+
 abbrev pub walkHouse : List ℕ → List ℕ → List ℕ → Stage → House
-walkHouse keys counts parts s = houseOf keys counts (s .used) (s .standing) parts
+walkHouse keys counts parts s = houseOf keys counts (s .used) (stageStanding s) parts
 
 abbrev pub walked : List ℕ → List ℕ → List ℕ → Stage → List ℕ → Progress
 walked keys counts parts s held = progress (walkHouse keys counts parts s) (s .accepted) (s .fate) held
@@ -89,6 +96,18 @@ pub record Stepped (keys counts parts : List ℕ) (s : Stage) (ks cs ps : List �
   pub onward : Onward keys counts parts s ks cs ps r bytes
   pub nearer : ahead r bytes < ahead s bytes
 
+-- in the body, a PTR, MPR or FTR
+abbrev pub isBody : Place → Bool
+isBody Start = false
+isBody Header = false
+isBody Lot = false
+isBody Setup = false
+isBody Body = true
+isBody Ended = false
+
+unfoldable pub isTest : Place → ℕ → ℕ → Bool
+isTest place typ sub = eqb typ 15 && ((eqb sub 10 || (eqb sub 15 || eqb sub 20)) && isBody place)
+
 -- ---- a chunk more
 
 pub record Followed (s : Stream) (old : List ℕ) (got : ℕ) (r : Stream) (new : List ℕ) : Type 0 where
@@ -105,7 +124,18 @@ pub record Begun (s : Stream) : Type 0 where
 -- the first stage of a walk over a chunk
 abbrev pub staged : Stream → Stage
 staged s =
-    record { used = s .used; standing = s .standing; accepted = s .accepted; fate = Going; at = 0; more = true }
+    record {
+      used = s .used;
+      place = s .standing .place;
+      order = s .standing .order;
+      opened = s .standing .opened;
+      pcr = s .standing .pcr;
+      results = s .standing .results;
+      accepted = s .accepted;
+      fate = Going;
+      at = 0;
+      more = true;
+    }
 
 abbrev pub Staged : Stream → Stage → Type 0
 Staged s r = r ≡ staged s

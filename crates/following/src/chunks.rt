@@ -3,6 +3,7 @@
 use crate::Fate;
 use crate::Stage;
 use crate::Stream;
+use crate::walking::standing_of;
 use crate::walking::walk;
 use session::Session;
 ghost use mathlib.Core.Path.{_≡_};
@@ -49,10 +50,16 @@ fn keep(buf: &mut [u8], at: usize, end: usize) -> usize
 fn stage_of(s: Stream) -> Stage
     ensures { λ r. ⌜ Staged s r ⌝ }
 {
-    let standing = s.standing;
+    let st = s.standing;
+    let place = st.place;
+    let order = st.order;
     Stage {
         used: s.used,
-        standing,
+        place,
+        order,
+        opened: st.opened,
+        pcr: st.pcr,
+        results: st.results,
         accepted: s.accepted,
         fate: Fate::Going,
         at: 0,
@@ -76,7 +83,7 @@ fn follow_on(s: Stream, buf: &mut [u8], got: usize) -> Stream
         stage_of(s),
         &buf[0..end],
     );
-    let standing = w.standing;
+    let standing = standing_of(w);
     let fate = w.fate;
     let held = keep(buf, w.at, end);
     Stream {

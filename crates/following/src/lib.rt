@@ -10,6 +10,8 @@ mod walking;
 pub use chunks::begin;
 pub use chunks::follow;
 pub use ending::finish;
+use numbers::Order;
+use order::Place;
 use session::Standing;
 
 // What has become of a stream: it goes on, or its next record was refused, or is too long.
@@ -33,10 +35,15 @@ pub struct Stream {
 }
 
 // Where the walk over the records of a chunk stands, but for rows and parts, which are lent: `at` is where the next
-// record begins, and `more` whether it is to be looked at.
+// record begins, and `more` whether it is to be looked at. The session's standing is held field by field: copied whole,
+// with the unused bytes between its fields, it costs more than all else that is done for a record.
 struct Stage {
     used: usize,
-    standing: Standing,
+    place: Place,
+    order: Order,
+    opened: usize,
+    pcr: bool,
+    results: u32,
     accepted: u64,
     fate: Fate,
     at: usize,

@@ -4,12 +4,14 @@ use crate::Stage;
 use crate::cutting::needed;
 use core::deliver_lent;
 use house::Room;
+use order::Place;
+use session::Standing;
 ghost use mathlib.Core.Path.{_≡_};
 ghost use mathlib.Core.Bool.{true, false};
 ghost use Prim.Native.Nat.{_+_, _≤_};
 ghost use lib.ListN.{length};
 ghost use Rattle.following.specs.Following.{needed, mostLength};
-ghost use Rattle.following.specs.Lent.{aloneRoom, Walkable, Onward, Stepped, rest};
+ghost use Rattle.following.specs.Lent.{aloneRoom, stageStanding, rest, Walkable, Onward, Stepped, isTest, isBody};
 
 // What slot 0 sees of a house where it alone is open.
 fn room() -> Room
@@ -19,6 +21,20 @@ fn room() -> Room
         slot: 0,
         floor: 1024,
         others: 0,
+    }
+}
+
+pub(crate) fn standing_of(s: Stage) -> Standing
+    ensures { λ r. ⌜ r ≡ stageStanding s ⌝ }
+{
+    let place = s.place;
+    let order = s.order;
+    Standing {
+        place,
+        order,
+        opened: s.opened,
+        pcr: s.pcr,
+        results: s.results,
     }
 }
 
@@ -32,7 +48,7 @@ fn take_record(
     n: usize,
 ) -> Stage
     requires { ⌜ Walkable (now keys) (now counts) (now parts) s (now bytes) × (s .more ≡ true) ⌝ }
-    requires { ⌜ (n ≡ needed (s .standing) (rest s (now bytes))) × (n ≤ mostLength) × (s .at + n ≤ length (now bytes)) ⌝ }
+    requires { ⌜ (n ≡ needed (stageStanding s) (rest s (now bytes))) × (n ≤ mostLength) × (s .at + n ≤ length (now bytes)) ⌝ }
     ensures { λ r. ⌜ Stepped (now (keys .entry)) (now (counts .entry)) (now (parts .entry)) s (now (keys .exit))
         (now (counts .exit)) (now (parts .exit)) r (now (bytes .entry)) ⌝ }
 {
@@ -43,17 +59,23 @@ fn take_record(
         counts,
         s.used,
         room(),
-        s.standing,
+        standing_of(s),
         parts,
         &bytes[at..next],
     );
     let answer = d.answer;
-    let standing = d.standing;
+    let st = d.standing;
+    let place = st.place;
+    let order = st.order;
     let number = answers::number(answer);
     if number == 0 {
         return Stage {
             used: d.used,
-            standing,
+            place,
+            order,
+            opened: st.opened,
+            pcr: st.pcr,
+            results: st.results,
             accepted: s.accepted + 1,
             fate: Fate::Going,
             at: next,
@@ -62,11 +84,48 @@ fn take_record(
     }
     Stage {
         used: d.used,
-        standing,
+        place,
+        order,
+        opened: st.opened,
+        pcr: st.pcr,
+        results: st.results,
         accepted: s.accepted,
         fate: Fate::Refused(number),
         at: bytes.len(),
         more: false,
+    }
+}
+
+// Whether a record is a PTR, MPR or FTR in the body: accepted unread, it changes nothing. Nearly every record of a lot
+// is one, so they are passed over with no search for their kind.
+fn is_test(place: Place, typ: u8, sub: u8) -> bool
+    ensures { λ r. ⌜ r ≡ isTest place typ sub ⌝ }
+{
+    if typ != 15 {
+        return false;
+    }
+    if sub == 10 {
+        return is_body(place);
+    }
+    if sub == 15 {
+        return is_body(place);
+    }
+    if sub == 20 {
+        return is_body(place);
+    }
+    false
+}
+
+fn is_body(place: Place) -> bool
+    ensures { λ r. ⌜ r ≡ isBody place ⌝ }
+{
+    match place {
+        Place::Start => false,
+        Place::Header => false,
+        Place::Lot => false,
+        Place::Setup => false,
+        Place::Body => true,
+        Place::Ended => false,
     }
 }
 
@@ -77,13 +136,18 @@ fn step(keys: &mut [u64], counts: &mut [u64], parts: &mut [u64], s: Stage, bytes
         (now (counts .exit)) (now (parts .exit)) r (now (bytes .entry)) ⌝ }
 {
     let at = s.at;
-    let standing = s.standing;
+    let place = s.place;
+    let order = s.order;
     let end = bytes.len();
-    let n = needed(standing, &bytes[at..end]);
+    let n = needed(standing_of(s), &bytes[at..end]);
     if 65536 < n {
         return Stage {
             used: s.used,
-            standing,
+            place,
+            order,
+            opened: s.opened,
+            pcr: s.pcr,
+            results: s.results,
             accepted: s.accepted,
             fate: Fate::TooLong,
             at: end,
@@ -93,11 +157,29 @@ fn step(keys: &mut [u64], counts: &mut [u64], parts: &mut [u64], s: Stage, bytes
     if end - at < n {
         return Stage {
             used: s.used,
-            standing,
+            place,
+            order,
+            opened: s.opened,
+            pcr: s.pcr,
+            results: s.results,
             accepted: s.accepted,
             fate: Fate::Going,
             at,
             more: false,
+        };
+    }
+    if is_test(place, bytes[at + 2], bytes[at + 3]) {
+        return Stage {
+            used: s.used,
+            place,
+            order,
+            opened: s.opened,
+            pcr: s.pcr,
+            results: s.results,
+            accepted: s.accepted + 1,
+            fate: Fate::Going,
+            at: at + n,
+            more: true,
         };
     }
     take_record(keys, counts, parts, s, bytes, n)

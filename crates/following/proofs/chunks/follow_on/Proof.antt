@@ -5,7 +5,7 @@ use Prim.Native.Nat.{_+_}
 use lib.ListN.{length}
 use denote.Ref.{now}
 use borrow.Author.Needs.{needs}
-use Rattle.following.proofs.Carry.{front-part, walk-begins, walk-ends, chunk-followed}
+use Rattle.following.proofs.Carry.{front-part, walk-begins, walk-ends, chunk-told}
 use Rattle.following.proofs.chunks.follow_on.Statement.{statement}
 use Rattle.following.proofs.chunks.follow_on.Tie as tie
 
@@ -50,9 +50,10 @@ returns c =
     let walked = kept .before .before .before .before .before .before in
     let from = staged walked in
     let s = start from in
-    chunk-followed (s .args .s) (now (s .args .buf)) (s .args .got) (s .pre .0) (s .pre .1) (s .pre .2) (s .pre .3) _
+    chunk-told (s .args .s) (now (s .args .buf)) (s .args .got) (s .pre .0) (s .pre .1) (s .pre .2) (s .pre .3) _
     (front-part (s .args .s .held + s .args .got) (now (s .args .buf))) _ (from .stage-of .ensures) _ _ _ _ (walked .walk .ensures .0)
-    (walked .walk .ensures .1) _ _ (kept .keep .ensures .0) (kept .keep .kept .0) (kept .keep .ensures .1)
+    (walked .walk .ensures .1) _ _ (kept .keep .ensures .0) (kept .keep .kept .0) (kept .keep .ensures .1) _
+    (kept .before .before .standing-of .ensures)
 
 -- ---- found by search
 
@@ -80,6 +81,9 @@ part-walk-start c = search needs
 part-walk-end : tie.Need-part-walk-end
 part-walk-end c = search needs
 
+standing-of-requires : tie.Need-standing-of-requires
+standing-of-requires c κs = search needs
+
 same-length : tie.Need-same-length
 same-length c = search needs
 
@@ -96,6 +100,7 @@ follow-on-spec =
     part-walk-start
     part-walk-end
     walk-requires
+    standing-of-requires
     keep-requires
     same-length
     returns)

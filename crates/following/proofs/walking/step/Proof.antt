@@ -1,48 +1,53 @@
 -- `following::walking::step` meets its contract: each return is one law of a step.
 -- Assumes nothing.
-use mathlib.Core.Path.{_≡_, ap, _∙_}
+use mathlib.Core.Path.{_≡_, ap, sym, _∙_}
 use mathlib.Core.List.{List}
-use Prim.Native.Nat.{ℕ}
+use Prim.Native.Nat.{ℕ, _+_, _≤_}
 use native.Mathlib.Omega.{arith}
+use lib.ListN.{length}
 use denote.Ref.{now}
 use borrow.Author.Needs.{needs}
+use Rattle.numbers.specs.Laws.{Bytes}
+use Rattle.session.specs.declared.Standing.{Standing}
 use Rattle.following.specs.Following.{needed}
-use Rattle.following.specs.Lent.{rest}
-use Rattle.following.proofs.Steps.{rest-all, step-short, step-long}
+use Rattle.following.specs.Lent.{rest, stageStanding}
+use Rattle.following.proofs.Cuts.{needed-some}
+use Rattle.following.proofs.Steps.{told-needed, step-short, step-long}
+use Rattle.following.proofs.Passing.{step-test}
 use Rattle.following.proofs.walking.step.Statement.{statement}
 use Rattle.following.proofs.walking.step.Tie as tie
+
+-- ---- where a fact stands
 
 abbrev start : tie.After-needed → tie.Start
 start c = c .before .before .before .before .before .before .before
 
+abbrev asked : tie.Else2 → tie.After-needed
+asked c = c .before .before
+
+range : (c : tie.After-needed) → Bytes (now (start c .args .bytes))
+range c k = omega (arith, c .before .before .before .shared-slice-known .given k)
+
 told : (c : tie.After-needed)
-    → c .needed .result ≡ needed (start c .args .s .standing) (rest (start c .args .s) (now (start c .args .bytes)))
+    → c .needed .result ≡ needed (stageStanding (start c .args .s)) (rest (start c .args .s) (now (start c .args .bytes)))
 told c =
-    c .needed .ensures
-    ∙ ap (λ (l : List ℕ). needed (start c .args .s .standing) l)
-    (rest-all (now (start c .args .bytes)) (start c .args .s .at))
+    told-needed (start c .args .s) (now (start c .args .bytes)) (c .before .before .standing-of .ensures)
+    (c .needed .ensures)
 
-returns : tie.Need-returns
-returns c =
-    let given = start (c .before) .pre in
-    step-long _ _ _ _ _ (given .0) (given .1) _ (told (c .before)) (c .if1 .taken)
+some : (c : tie.After-needed) → 4 ≤ c .needed .result
+some c = omega (
+  arith,
+  told c,
+  needed-some (stageStanding (start c .args .s))
+      (rest (start c .args .s) (now (start c .args .bytes))),
+)
 
-returns-2 : tie.Need-returns-2
-returns-2 c =
-    let asked = c .before .before in
-    let given = start asked .pre in
-    step-short _ _ _ _ _ (given .0) (given .1) _ (told asked) (c .before .if1 .left) (c .if2 .taken)
+-- the record ends within the chunk
+ends : (c : tie.Else2) → start (asked c) .args .s .at + asked c .needed .result ≤ length (now (start (asked c) .args .bytes))
+ends c = omega (arith, c .if2 .left, start (asked c) .pre .0 .within)
 
-take-record-requires : tie.Need-take-record-requires
-take-record-requires c κs =
-    let whole = c .before .before .before in
-    let asked = whole .before .before in
-    let given = start asked .pre in (
-      (given .0, given .1),
-      (told asked, whole .before .if1 .left, omega (arith, whole .if2 .left, given .0 .within)),
-    )
-
--- ---- found by search
+standing-of-requires : tie.Need-standing-of-requires
+standing-of-requires c κs = search needs
 
 sub-needed : tie.Need-sub-needed
 sub-needed c = search needs
@@ -56,8 +61,60 @@ part-needed-end c = search needs
 needed-requires : tie.Need-needed-requires
 needed-requires c κs = search needs
 
+returns : tie.Need-returns
+returns c =
+    let given = start (c .before) .pre in
+    step-long _ _ _ _ _ (given .0) (given .1) _ (told (c .before)) (c .if1 .taken)
+
 sub-if2 : tie.Need-sub-if2
 sub-if2 c = search needs
+
+returns-2 : tie.Need-returns-2
+returns-2 c =
+    let asked = c .before .before in
+    let given = start asked .pre in
+    step-short _ _ _ _ _ (given .0) (given .1) _ (told asked) (c .before .if1 .left) (c .if2 .taken)
+
+add-is-test : tie.Need-add-is-test
+add-is-test c = search needs
+
+shared-slice-read-is-test : tie.Need-shared-slice-read-is-test
+shared-slice-read-is-test c =
+    omega (arith, ends (c .before), some (asked (c .before)))
+
+add-is-test-2 : tie.Need-add-is-test-2
+add-is-test-2 c = search needs
+
+shared-slice-read-is-test-2 : tie.Need-shared-slice-read-is-test-2
+shared-slice-read-is-test-2 c =
+    omega (arith, ends (c .before .before), some (asked (c .before .before)))
+
+is-test-requires : tie.Need-is-test-requires
+is-test-requires c κs = search needs
+
+add-t25 : tie.Need-add-t25
+add-t25 c =
+    let whole = c .before .before .before .before .before in
+    omega (arith, ends whole, some (asked whole), start (asked whole) .pre .0 .countable)
+
+add-t27 : tie.Need-add-t27
+add-t27 c = search needs
+
+returns-3 : tie.Need-returns-3
+returns-3 c =
+    let tested = c .before .before in
+    let whole = tested .before .before .before in
+    let given = start (asked whole) .pre in
+    step-test _ _ _ _ _ (given .0) (given .1) _ (told (asked whole)) (whole .before .if1 .left) (ends whole)
+    (range (asked whole)) (sym (tested .is-test .ensures) ∙ c .before .if3 .taken)
+
+take-record-requires : tie.Need-take-record-requires
+take-record-requires c κs =
+    let whole = c .before .before .before .before .before .before .before in
+    let given = start (asked whole) .pre in (
+      (given .0, given .1),
+      (told (asked whole), whole .before .if1 .left, ends whole),
+    )
 
 same-length : tie.Need-same-length
 same-length c = search needs
@@ -68,13 +125,14 @@ same-length-2 c = search needs
 same-length-3 : tie.Need-same-length-3
 same-length-3 c = search needs
 
-returns-3 : tie.Need-returns-3
-returns-3 c = search needs
+returns-4 : tie.Need-returns-4
+returns-4 c = search needs
 
 pub step-spec : {M : Type 1} → statement M
 step-spec =
     tie.close
     (tie.spec
+    standing-of-requires
     sub-needed
     part-needed-start
     part-needed-end
@@ -82,8 +140,16 @@ step-spec =
     returns
     sub-if2
     returns-2
+    add-is-test
+    shared-slice-read-is-test
+    add-is-test-2
+    shared-slice-read-is-test-2
+    is-test-requires
+    add-t25
+    add-t27
+    returns-3
     take-record-requires
     same-length
     same-length-2
     same-length-3
-    returns-3)
+    returns-4)
