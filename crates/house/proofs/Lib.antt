@@ -3,3 +3,4 @@ pub mod Delivering
 pub mod Calling
 pub mod Reporting
 pub mod Keeping
+pub mod Lending
