@@ -8,3 +8,4 @@ pub mod Refusing
 pub mod Counting
 pub mod Alone
 pub mod Rooms
+pub mod Lending

@@ -1,21 +1,27 @@
--- What is shown of a house: statements only. Each is proved in proofs/Keeping.antt, under its name in small letters.
+-- What is shown of a house: statements only. Each is proved in proofs/Keeping.antt, or in proofs/Lending.antt those of
+-- Lending, under its name in small letters.
 -- Document 01, "The house, its slots and its rows": "Every house reached from a fresh one is sound".
---   Shaped   what its type says of a house: how long its arrays are
+--   Shaped    what its type says of a house: how long its arrays are
+--   Lending   what a loop of deliveries over lent rows keeps
 -- Assumes nothing.
 use mathlib.Core.Path.{_≡_}
 use mathlib.Core.Bool.{true}
 use mathlib.Core.List.{List}
-use Prim.Native.Nat.{ℕ, _<_}
-use lib.ListN.{length}
+use Prim.Native.Nat.{ℕ, _+_, _≤_, _<_}
+use lib.ListN.{length, take}
 use Rattle.numbers.specs.Laws.{Bytes}
 use Rattle.answers.specs.declared.Answer.the-variants.{Done}
+use Rattle.rising.specs.Rising.{allBelow}
 use Rattle.rows.specs.Rows.{slotCount, heldBy}
 use Rattle.session.specs.declared.Standing.{Standing}
 use Rattle.session.specs.declared.Verdict.the-variants.{Wanted}
+use Rattle.session.specs.Session as session
 use Rattle.session.specs.Session.{mostOpen}
 use Rattle.session.specs.After.{verdictOn}
 use Rattle.house.specs.declared.House.{House}
+use Rattle.house.specs.declared.Room.{Room}
 use Rattle.house.specs.House.{rowCount, fresh, keysOf, sound}
+use Rattle.house.specs.Deliver.{Core, delivered, pastCounts, LentRows, LentCore}
 use Rattle.house.specs.Calls.{slotAt, openSlot, closeSlot, deliver}
 use Rattle.house.specs.History.{Call, reached, AllSent}
 
@@ -51,3 +57,24 @@ BelowFloor = (h : House) (slot : ℕ) (rec : List ℕ) (st : Standing) (rank key
 -- every house reached from a fresh one is sound
 abbrev pub ReachedSound : Type 0
 ReachedSound = (calls : List Call) → AllSent calls → sound (reached fresh calls) ≡ true
+
+-- ---- one delivery after another over lent rows
+
+-- what a loop of deliveries to one slot knows of what it lends; `most` is above every count, and one record raises it
+-- by one
+pub record Lending (room : Room) (c : Core) (most : ℕ) : Type 0 where
+  pub rows : LentRows room (c .keys) (c .counts) (c .used)
+  pub session : session.sound (record { standing = c .standing; parts = c .parts }) ≡ true
+  pub cells : length (c .parts) ≡ mostOpen
+  pub below : allBelow most (take (c .used) (c .counts)) ≡ true
+
+-- it is all that a delivery asks for
+abbrev pub LendingCore : Type 0
+LendingCore = (room : Room) (c : Core) (most : ℕ) → Lending room c most
+    → LentCore room (c .keys) (c .counts) (c .used) (c .standing) (c .parts)
+
+-- .. and a delivery keeps it, the floor and what all others are promised as they were
+abbrev pub LendingKept : Type 0
+LendingKept = (room : Room) (c : Core) (most : ℕ) (rec : List ℕ) → Bytes rec → 1 ≤ most → most < pastCounts
+    → Lending room c most
+    → Lending room (delivered room c rec .core) (most + 1)

@@ -43,9 +43,10 @@ pub fn rank_of(s: &[u64], used: usize, key: u64) -> usize
 }
 
 // The rank of `key`, as rank_of has it, in a list of at most `most` elements. How many turns it takes depends on `most`
-// alone, and an element only tells where the next one is read: with a constant there is no branch to be foreseen.
+// alone, and an element only tells where the next one is read: with a constant there is no branch to be foreseen. The
+// three elements of a turn are read at once, so a quarter is left after about the time of one.
 pub fn rank_among(s: &[u64], used: usize, most: usize, key: u64) -> usize
-    requires { ⌜ (used ≤ most) × (used ≤ length (now s)) × (rising (take used (now s)) ≡ true) ⌝ }
+    requires { ⌜ (used ≤ most) × (most ≤ 65536) × (used ≤ length (now s)) × (rising (take used (now s)) ≡ true) ⌝ }
     ensures { λ r. ⌜ r ≡ rank key (take used (now (s .entry))) ⌝ }
 {
     if used == 0 {
@@ -55,12 +56,21 @@ pub fn rank_among(s: &[u64], used: usize, most: usize, key: u64) -> usize
     let mut n = used;
     let mut width = most;
     while width > 1 {
-        let half = n / 2;
-        if s[at + half] < key {
-            at += half;
+        let left = (n + 3) / 4;
+        let first = at + n / 4;
+        let middle = at + n / 2;
+        let last = at + (n - left);
+        if s[first] < key {
+            at = first;
         }
-        n -= half;
-        width -= width / 2;
+        if s[middle] < key {
+            at = middle;
+        }
+        if s[last] < key {
+            at = last;
+        }
+        n = left;
+        width = (width + 3) / 4;
     }
     if s[at] < key { at + 1 } else { at }
 }

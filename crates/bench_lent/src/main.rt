@@ -1,0 +1,182 @@
+// Delivers records over lent rows, one after another: what the lent core costs. Two streams go to one session, each many
+// times over: PIR and PRR pairs under 1,024 keys in no order, then PTRs of 30 bytes, whose bodies are not read.
+use core::deliver_lent;
+use house::Room;
+use numbers::Order;
+use order::Place;
+use session::Standing;
+ghost use mathlib.Core.Path.{_≡_};
+ghost use Prim.Native.Nat.{_+_, _≤_, _<_};
+ghost use lib.ListN.{length};
+ghost use Rattle.house.specs.Deliver.{core};
+ghost use Rattle.house.specs.Laws.{Lending};
+
+// 1,024 pairs each, and 1,024 PTRs each
+const PAIR_TURNS: u64 = 2048000;
+
+const PTR_TURNS: u64 = 4096000;
+
+// What is left of a session and of the rows but for what is lent, and how many records were accepted.
+struct Ran {
+    accepted: u64,
+    used: usize,
+    standing: Standing,
+}
+
+fn wide(x: u8) -> usize
+    ensures { λ r. ⌜ r < 256 ⌝ }
+{
+    x as usize
+}
+
+// A PIR and a PRR, 6 and 11 bytes, for one key: head 1, one of 32 sites, one of 32 bins.
+fn pair(key: usize) -> [u8; 17]
+    requires { ⌜ key < 1024 ⌝ }
+    ensures { λ r. ⌜ length r ≡ 17 ⌝ }
+{
+    let site = (key / 32) as u8;
+    let bin = (key % 32) as u8;
+    [2, 0, 5, 10, 1, site, 7, 0, 5, 20, 1, site, 0, 0, 0, bin, 0]
+}
+
+// A pair for each of 1,024 keys, in no order.
+fn pairs() -> [u8; 17408]
+    ensures { λ r. ⌜ length r ≡ 17408 ⌝ }
+{
+    let mut s = [0u8; 17408];
+    let mut i: usize = 0;
+    while i < 17408 {
+        let p = pair(i / 17 * 389 % 1024);
+        s[i] = p[i % 17];
+        i += 1;
+    }
+    s
+}
+
+// PTRs, 30 bytes each.
+fn tests() -> [u8; 30720]
+    ensures { λ r. ⌜ length r ≡ 30720 ⌝ }
+{
+    let mut s = [0u8; 30720];
+    let mut i: usize = 0;
+    while i < 1024 {
+        let at = i * 30;
+        s[at] = 26;
+        s[at + 2] = 15;
+        s[at + 3] = 10;
+        i += 1;
+    }
+    s
+}
+
+// Where a record ends that begins at `at`: its length is below 256, in its first byte.
+fn end_of(stream: &[u8], at: usize) -> usize
+    requires { ⌜ at < length (now stream) ⌝ }
+    ensures { λ r. ⌜ (at ≤ r) × (r ≤ length (now (stream .entry))) ⌝ }
+{
+    let n = wide(stream[at]) + 4;
+    if stream.len() - at < n {
+        return stream.len();
+    }
+    at + n
+}
+
+// Delivers so many records, from the start of the stream again when it ends; `before` were delivered before them.
+fn follow(
+    keys: &mut [u64],
+    counts: &mut [u64],
+    parts: &mut [u64],
+    from: Ran,
+    room: Room,
+    stream: &[u8],
+    turns: u64,
+    before: u64,
+) -> Ran
+    requires { ⌜ Lending room (core (now keys) (now counts) (from .used) (from .standing) (now parts)) (1 + before) ⌝ }
+    requires { ⌜ (before + turns < 4294967295) × (0 < length (now stream)) × (from .accepted ≤ before) ⌝ }
+    ensures { λ r. ⌜ Lending room (core (now (keys .exit)) (now (counts .exit)) (r .used) (r .standing) (now (parts .exit)))
+        (1 + (before + turns)) × (r .accepted ≤ before + turns) ⌝ }
+{
+    let mut used = from.used;
+    let mut standing = from.standing;
+    let mut accepted = from.accepted;
+    let mut at: usize = 0;
+    let mut turn: u64 = 0;
+    while turn < turns {
+        let end = end_of(stream, at);
+        let d = deliver_lent(keys, counts, used, room, standing, parts, &stream[at..end]);
+        let answer = d.answer;
+        if answers::number(answer) == 0 {
+            accepted += 1;
+        }
+        let next = d.standing;
+        standing = next;
+        used = d.used;
+        at = end;
+        if stream.len() <= at {
+            at = 0;
+        }
+        turn += 1;
+    }
+    Ran {
+        accepted,
+        used,
+        standing,
+    }
+}
+
+fn run() -> Ran {
+    let mut keys = [0u64; 1024];
+    let mut counts = [0u64; 1024];
+    let mut parts = [0u64; 32];
+    let room = Room {
+        slot: 0,
+        floor: 1024,
+        others: 0,
+    };
+    let standing = Standing {
+        place: Place::Body,
+        order: Order::LowFirst,
+        opened: 0,
+        pcr: false,
+        results: 0,
+    };
+    let from = Ran {
+        accepted: 0,
+        used: 0,
+        standing,
+    };
+    let pair_stream = pairs();
+    let r = follow(
+        &mut keys,
+        &mut counts,
+        &mut parts,
+        from,
+        room,
+        &pair_stream,
+        PAIR_TURNS,
+        0,
+    );
+    let test_stream = tests();
+    follow(
+        &mut keys,
+        &mut counts,
+        &mut parts,
+        r,
+        room,
+        &test_stream,
+        PTR_TURNS,
+        PAIR_TURNS,
+    )
+}
+
+fn main() {
+    let r = run();
+    let st = r.standing;
+    io::print_decimal(1, r.accepted);
+    io::write_all(1, b" ");
+    io::print_decimal(1, r.used as u64);
+    io::write_all(1, b" ");
+    io::print_decimal(1, st.results as u64);
+    io::write_all(1, b"\n");
+}
