@@ -299,7 +299,8 @@ isolated past other slot floor cs ds sp so sc sd granted-past granted-other same
     let sg = after-shaped (reached fresh other) (Open slot floor) tt pg in
     let eh = after-keeps (reached fresh past) (Open slot floor) tt ph qh in
     let eg = after-keeps (reached fresh other) (Open slot floor) tt pg qg in
-    let alike = opened-alike slot floor (reached fresh past) (reached fresh other) ph pg qh qg granted-past granted-other in
+    let alike =
+    opened-alike slot floor (reached fresh past) (reached fresh other) ph pg qh qg granted-past granted-other in
     promised-alike slot cs h g sc alike sh sg eh eg
     ∙ ap (promised slot g) same
     ∙ sym (promised-alike slot ds g g sd (alike-same slot g) sg sg eg eg)

@@ -24,5 +24,10 @@ use Rattle.texts.specs.Pieces.{split, pieceFits, entryIn, fieldsFit, entriesIn}
 use Rattle.marked.specs.Marked.{table, Marked}
 
 pub marked-cases : Marked
-unfolding table sound rowsSound slotsSound slotSound promisedFrom unfilled granted rowTaken resultedIf settled delivered openSlot deliver rowAt reported heldBy sumBy rowRight rowsRight countedMore countedNew counted plus risingFrom rising rank held allBelow insertAt removeAt session.sound partsRight judgeIn judgeFirst judgePir judgePrr judgeLater judge isRecord named kindOf readBody softBinFits closeSlot slotDropped hasType beyondTable placedAt digits isDigit numeral allowed laid ending tagOf sitesFit contentMeans split pieceFits entryIn fieldsFit entriesIn
+unfolding table sound rowsSound slotsSound slotSound promisedFrom unfilled granted rowTaken resultedIf settled
+    delivered openSlot deliver rowAt reported heldBy sumBy rowRight rowsRight countedMore countedNew counted plus
+    risingFrom rising rank held allBelow insertAt removeAt session.sound partsRight judgeIn judgeFirst judgePir
+    judgePrr judgeLater judge isRecord named kindOf readBody softBinFits closeSlot slotDropped hasType beyondTable
+    placedAt digits isDigit numeral allowed laid ending tagOf sitesFit contentMeans split pieceFits entryIn fieldsFit
+    entriesIn
 marked-cases = refl

@@ -18,13 +18,22 @@ use Rattle.bodies.specs.Values.{softBinFits}
 use Rattle.marked.specs.Night.{NightAnswers, NightTally, NightPromised}
 
 pub night-answers : NightAnswers
-unfolding sound rowsSound slotsSound slotSound promisedFrom unfilled granted rowTaken resultedIf settled delivered openSlot deliver rowAt reported heldBy sumBy rowRight rowsRight countedMore countedNew counted plus risingFrom rising rank held allBelow insertAt removeAt session.sound partsRight judgeIn judgeFirst judgePir judgePrr judgeLater judge isRecord named kindOf readBody softBinFits
+unfolding sound rowsSound slotsSound slotSound promisedFrom unfilled granted rowTaken resultedIf settled delivered
+    openSlot deliver rowAt reported heldBy sumBy rowRight rowsRight countedMore countedNew counted plus risingFrom
+    rising rank held allBelow insertAt removeAt session.sound partsRight judgeIn judgeFirst judgePir judgePrr
+    judgeLater judge isRecord named kindOf readBody softBinFits
 night-answers = refl
 
 pub night-tally : NightTally
-unfolding sound rowsSound slotsSound slotSound promisedFrom unfilled granted rowTaken resultedIf settled delivered openSlot deliver rowAt reported heldBy sumBy rowRight rowsRight countedMore countedNew counted plus risingFrom rising rank held allBelow insertAt removeAt session.sound partsRight judgeIn judgeFirst judgePir judgePrr judgeLater judge isRecord named kindOf readBody softBinFits
+unfolding sound rowsSound slotsSound slotSound promisedFrom unfilled granted rowTaken resultedIf settled delivered
+    openSlot deliver rowAt reported heldBy sumBy rowRight rowsRight countedMore countedNew counted plus risingFrom
+    rising rank held allBelow insertAt removeAt session.sound partsRight judgeIn judgeFirst judgePir judgePrr
+    judgeLater judge isRecord named kindOf readBody softBinFits
 night-tally = refl
 
 pub night-promised : NightPromised
-unfolding sound rowsSound slotsSound slotSound promisedFrom unfilled granted rowTaken resultedIf settled delivered openSlot deliver rowAt reported heldBy sumBy rowRight rowsRight countedMore countedNew counted plus risingFrom rising rank held allBelow insertAt removeAt session.sound partsRight judgeIn judgeFirst judgePir judgePrr judgeLater judge isRecord named kindOf readBody softBinFits
+unfolding sound rowsSound slotsSound slotSound promisedFrom unfilled granted rowTaken resultedIf settled delivered
+    openSlot deliver rowAt reported heldBy sumBy rowRight rowsRight countedMore countedNew counted plus risingFrom
+    rising rank held allBelow insertAt removeAt session.sound partsRight judgeIn judgeFirst judgePir judgePrr
+    judgeLater judge isRecord named kindOf readBody softBinFits
 night-promised = refl
