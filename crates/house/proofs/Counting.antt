@@ -2,7 +2,7 @@
 -- tell of a slot is what the house holds of it, call by call.
 -- Assumes nothing.
 use mathlib.Core.Path.{_≡_, refl, ap, sym, _∙_}
-use mathlib.Core.Bool.{Bool, true, false, cond, not, false≢true, true≢false}
+use mathlib.Core.Bool.{Bool, true, false, cond, not, _&&_, false≢true, true≢false}
 use mathlib.Core.List.{List, [], _∷_, map, map-append}
 use Prim.Native.Nat.{ℕ, zero, suc, _+_, _-_, _%_, _≤_, _<_}
 use native.Mathlib.Nat.{add-zero, zero-add}
@@ -15,17 +15,18 @@ use Rattle.answers.specs.declared.Answer.{Answer}
 use Rattle.answers.specs.declared.Answer.the-variants.{Done, NoRoom}
 use Rattle.answers.specs.Numbers.{numberOf}
 use Rattle.numbers.specs.Laws.{Bytes}
+use Rattle.rising.specs.Rising.{risingFrom, rising}
 use Rattle.rows.specs.Rows.{slotCount, slotSpan, headOf, siteOf, binOf, slotRank, rowKey, heldBy, heldFrom}
-use Rattle.rows.specs.Counts.{Count, count, plus, rowsBy}
+use Rattle.rows.specs.Counts.{Count, count, plus, keysIn, rowsBy}
 use Rattle.rows.proofs.Laws.{held-all, held-ranks, run-within, closed-none}
-use Rattle.rows.proofs.Counts.{rows-held-by, rows-at}
+use Rattle.rows.proofs.Counts.{rows-held-by, rows-at, plus-rising}
 use Rattle.session.specs.declared.Standing.{Standing}
 use Rattle.session.specs.declared.Verdict.{Verdict}
 use Rattle.session.specs.declared.Verdict.the-variants.{Refused, Taken, Opened, Wanted}
 use Rattle.session.specs.Session.{partsOf, isStart}
 use Rattle.session.specs.After as session
 use Rattle.session.specs.After.{verdictOn}
-use Rattle.session.specs.Results.{resultOf, orderIn, ofRecord}
+use Rattle.session.specs.Results.{Result, None, Part, resultOf, orderIn, ofRecord}
 use Rattle.session.specs.Laws.{Follows, Begins, Tells}
 use Rattle.session.proofs.Judgement.{judged-begins, judged-tells, judged-refusal}
 use Rattle.house.specs.declared.Slot.{Slot}
@@ -37,11 +38,12 @@ use Rattle.house.specs.Deliver.{granted}
 use Rattle.house.specs.Calls.{slotAt, openSlot, closeSlot, roomOf, deliver}
 use Rattle.house.specs.Report.{rowAt, listed}
 use Rattle.house.specs.History.{Call, Open, Deliver, Report, Close, Figured, Listed, reply, answerOf, after}
-use Rattle.house.specs.History.{reached, said, history, names, Sent, AllSent}
+use Rattle.house.specs.History.{Said, reached, said, history, names, Sent, AllSent}
 use Rattle.house.specs.Tally.{Heard, nothing, counting, following, doneBy, isDone, heard, heardFrom, toldOf}
 use Rattle.house.specs.Tally.{rowOf, holding, owed, over, freeBy, promisedBy}
 use Rattle.house.specs.Laws.{Shaped}
 use Rattle.house.specs.Demands.{TallyReported, FiguresTallied, FreePromised, NeverRefused}
+use Rattle.house.specs.Demands.{TallyKeys, ShutNone, RowsTallied}
 use Rattle.house.proofs.Calling.{told-within, told-rooms, figures-done}
 use Rattle.house.proofs.Delivering.{granted-below}
 use Rattle.house.proofs.Reporting.{told-rises, open-within, report-done}
@@ -356,6 +358,10 @@ tally-reported calls slot long sent done =
     (leb-true (heldBy slot (keysOf h)) long (wide .0))
     ∙ ap (λ (rows : List Count). Listed Done (map rowOf rows)) (sym (p .rows))
 
+none-rising : rising [] ≡ true
+unfolding rising risingFrom
+none-rising = refl
+
 -- ---- the rooms, by the tallies
 
 module _ (calls : List Call) (sent : AllSent calls) where
@@ -411,6 +417,49 @@ figures-tallied calls sent =
 pub free-promised : FreePromised
 free-promised calls sent =
     rw (free-told calls sent, promised-told calls sent) (told-rooms (reached fresh calls) (reached-sound calls sent))
+
+pub rows-tallied : RowsTallied
+rows-tallied calls sent =
+    let h = reached fresh calls in
+    let e = reached-sound calls sent in
+    let all = held-all (takenOf (h .slots)) (keysOf h) (countsOf h) (told-right h e) in
+    let long = keys-long h 0 (reached-shaped calls sent) e in
+    omega (arith, held-over calls sent slotCount 0, all, long, told-within h e)
+
+pub shut-none : ShutNone
+shut-none slot calls sent shut = ap (map rowOf) (told-agree slot calls sent .shut shut .1)
+
+-- whatever is called and answered, no tally has a key twice
+keys-heard : (slot : ℕ) (es : List Said) (t : Heard) → rising (keysIn (t .rows)) ≡ true
+    → rising (keysIn (heardFrom slot es t .rows)) ≡ true
+keys-heard slot [] t e = e
+keys-heard slot (x ∷ es) t e = keys-heard slot es (heard slot x t) (go (names slot (x .call) && isDone x))
+  where
+    counts : (r : Result) → rising (keysIn (counting r (t .rows))) ≡ true
+    counts None = e
+    counts (Part key) = plus-rising key (t .rows) e
+
+    follows : (rec : List ℕ) (b : Bool)
+        → rising (keysIn (cond b (counting (resultOf (t .order) rec) (t .rows)) (t .rows))) ≡ true
+    follows rec true = counts (resultOf (t .order) rec)
+    follows rec false = e
+
+    none : rising [] ≡ true
+    none = none-rising
+
+    done : (c : Call) → rising (keysIn (doneBy c t .rows)) ≡ true
+    done (Open i floor) = none
+    done (Deliver i rec) = follows rec (t .begun)
+    done (Report i long) = e
+    done (Close i) = none
+    done Figured = e
+
+    go : (b : Bool) → rising (keysIn (cond b (doneBy (x .call) t) t .rows)) ≡ true
+    go true = done (x .call)
+    go false = e
+
+pub tally-keys : TallyKeys
+tally-keys slot es = keys-heard slot es nothing none-rising
 
 -- ---- below its floor
 

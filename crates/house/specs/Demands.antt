@@ -6,7 +6,7 @@
 --   promised   the replies to a session while it is open and needs no more rows than its floor
 -- Assumes nothing.
 use mathlib.Core.Path.{_≡_}
-use mathlib.Core.Bool.{Bool, true, cond, not, _&&_}
+use mathlib.Core.Bool.{Bool, true, false, cond, not, _&&_}
 use mathlib.Core.List.{List, [], _∷_, _++_}
 use Prim.Native.Nat.{ℕ, _+_, _-_, _≤_, _<_}
 use lib.Dec.{leb, ltb, eqb}
@@ -16,7 +16,8 @@ use Rattle.numbers.specs.Laws.{Bytes}
 use Rattle.answers.specs.declared.Answer.the-variants.{Done, NoRoom, NotSound}
 use Rattle.answers.specs.Numbers.{numberOf}
 use Rattle.rows.specs.Rows.{slotCount, slotOf, rowKey, heldBy}
-use Rattle.rising.specs.Rising.{held}
+use Rattle.rows.specs.Counts.{keysIn}
+use Rattle.rising.specs.Rising.{rising, held}
 use Rattle.session.specs.declared.Verdict.{Verdict}
 use Rattle.session.specs.declared.Verdict.the-variants.{Refused, Taken, Opened, Wanted}
 use Rattle.session.specs.After.{verdictOn}
@@ -29,8 +30,8 @@ use Rattle.house.specs.Deliver.{granted}
 use Rattle.house.specs.Calls.{slotAt, openSlot, closeSlot, deliver, roomOf, figuresOf}
 use Rattle.house.specs.Report.{rowAt, reported, listed, filled}
 use Rattle.house.specs.History.{Call, Open, Deliver, Report, Close, Figured, Reply, Listed, answerOf, reply}
-use Rattle.house.specs.History.{after, reached, history, names, named, Sent, AllSent}
-use Rattle.house.specs.Tally.{toldOf, tallied, holding, freeBy, promisedBy}
+use Rattle.house.specs.History.{Said, after, reached, history, names, named, Sent, AllSent}
+use Rattle.house.specs.Tally.{toldOf, tallied, holding, over, freeBy, promisedBy}
 
 -- ---- demand 1: a refusal changes nothing
 
@@ -130,6 +131,19 @@ RowsHeld = (calls : List Call) (i : ℕ) → AllSent calls → i < reached fresh
 abbrev pub KeysDiffer : Type 0
 KeysDiffer = (calls : List Call) (i j : ℕ) → AllSent calls → i < j → j < reached fresh calls .used
     → getD (reached fresh calls .keys) i 0 < getD (reached fresh calls .keys) j 0
+
+-- the same over the tallies: no tally has two rows for one key, a slot that is not open has none, and every row is free
+-- or one of a tally
+abbrev pub TallyKeys : Type 0
+TallyKeys = (slot : ℕ) (es : List Said) → rising (keysIn (toldOf slot es .rows)) ≡ true
+
+abbrev pub ShutNone : Type 0
+ShutNone = (slot : ℕ) (calls : List Call) → AllSent calls → toldOf slot (history fresh calls) .opened ≡ false
+    → tallied slot (history fresh calls) ≡ []
+
+abbrev pub RowsTallied : Type 0
+RowsTallied = (calls : List Call) → AllSent calls
+    → freeBy (history fresh calls) + over holding slotCount 0 (history fresh calls) ≡ rowCount
 
 -- the figures are those of the tallies
 abbrev pub FiguresTallied : Type 0

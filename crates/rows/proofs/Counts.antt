@@ -1,22 +1,21 @@
 -- The statements of specs/Laws.antt on a slot's rows as a list, proved by recursion on keys and counts.
 -- Assumes nothing.
 use mathlib.Core.Path.{_≡_, refl, sym, ap, _∙_}
-use mathlib.Core.Bool.{Bool, true, false, cond, _||_, false≢true}
+use mathlib.Core.Bool.{Bool, true, false, cond, false≢true}
 use mathlib.Core.List.{List, [], _∷_, _++_}
 use Prim.Native.Nat.{ℕ, zero, suc, _+_, _%_, _≤_, _<_}
 use native.Mathlib.Nat.{zero-add}
 use native.Mathlib.Omega.{arith}
-use borrow.Author.Tests.{ltb-true, ltb-false, eqb-true, eqb-false, lt-ltb, le-ltb, le-leb, eq-eqb, ne-eqb}
-use lib.Dec.{leb, ltb, eqb}
+use borrow.Author.Tests.{lt-ltb, le-ltb, le-leb, eq-eqb, ne-eqb}
+use lib.Dec.{eqb}
 use lib.ListN.{length, getD, take, drop, set}
-use Rattle.rising.specs.Rising.{risingFrom, rising, rank, held, inserted, removed}
+use Rattle.rising.specs.Rising.{risingFrom, rising, rank, held, inserted}
 use Rattle.rising.proofs.Laws as rising
-use Rattle.rows.specs.Rows.{slotSpan, slotOf, rowKey, heldBy, slotRank, slotRun, Kept, keysUsed, countsUsed}
-use Rattle.rows.specs.Rows.{counted, slotDropped}
-use Rattle.rows.specs.Counts.{Count, count, plus, has, rowsBy}
-use Rattle.rows.specs.Laws.{CountedRowsBy, DroppedRowsBy, RowsHeldBy, RowsHas, RowsAt}
+use Rattle.rows.specs.Rows.{slotSpan, slotOf, rowKey, heldBy, slotRank}
+use Rattle.rows.specs.Counts.{Count, count, plus, has, keysIn, rowsBy}
+use Rattle.rows.specs.Laws.{CountedRowsBy, DroppedRowsBy, RowsHeldBy, RowsHas, RowsAt, PlusRising}
 use Rattle.rows.proofs.Laws.{side, same-or, rising-head, rising-rest, rank-none, run-end, apart}
-use Rattle.rows.proofs.Changes.{by-held, keys-length, same-length, at-row, row-key, keys-more, counts-more}
+use Rattle.rows.proofs.Changes.{by-held, same-length, row-key, keys-more, counts-more}
 use Rattle.rows.proofs.Changes.{keys-new, counts-new, dropped-keys, dropped-counts}
 
 -- ---- one row, of the slot or of another
@@ -330,3 +329,28 @@ rows-at-from s b (k ∷ ks) (c ∷ cs) i none e l h =
 pub rows-at : RowsAt
 unfolding rising
 rows-at s ks cs i none e l h = rows-at-from s 0 ks cs i none e l h
+
+-- ---- one part more, of a list that rises
+
+plus-from : (b key : ℕ) (cs : List Count) → b ≤ key → risingFrom b (keysIn cs) ≡ true
+    → risingFrom b (keysIn (plus key cs)) ≡ true
+unfolding plus risingFrom
+plus-from b key [] h e = rising-cons b key [] h refl
+plus-from b key (c ∷ cs) h e =
+    let low = rising-head b (c .key) (keysIn cs) e in
+    let rest = rising-rest b (c .key) (keysIn cs) e in
+    side key (c .key)
+    (λ (l : key < c .key).
+    rw (lt-ltb key (c .key) l)
+    (rising-cons b key (keysIn (c ∷ cs)) h (rising-cons (suc key) (c .key) (keysIn cs) l rest)))
+    (λ (l : c .key ≤ key).
+    same-or key (c .key)
+    (λ (q : key ≡ c .key).
+    rw (le-ltb key (c .key) l, eq-eqb key (c .key) q) (rising-cons b (c .key) (keysIn cs) low rest))
+    (λ (q : key ≡ c .key → ⊥).
+    rw (le-ltb key (c .key) l, ne-eqb key (c .key) q)
+    (rising-cons b (c .key) (keysIn (plus key cs)) low (plus-from (suc (c .key)) key cs (omega arith) rest))))
+
+pub plus-rising : PlusRising
+unfolding rising
+plus-rising key cs e = plus-from 0 key cs (omega arith) e

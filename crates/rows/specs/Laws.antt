@@ -11,7 +11,7 @@ use Rattle.rising.specs.Rising.{rising, rank, held, inserted, removed}
 use Rattle.rows.specs.Rows.{slotCount, slotOf, heldBy, heldFrom, sumBy, rowRight, rowsRight, slotRank, slotRun}
 use Rattle.rows.specs.Rows.{Kept, keysUsed, countsUsed, countedMore, countedNew, counted, slotDropped}
 use Rattle.rows.specs.Rows.{slotSpan, rowKey}
-use Rattle.rows.specs.Counts.{Count, count, plus, has, rowsBy}
+use Rattle.rows.specs.Counts.{Count, count, plus, has, keysIn, rowsBy}
 
 -- ---- how many rows a slot holds, and what they sum to
 
@@ -270,3 +270,7 @@ abbrev pub RowsAt : Type 0
 RowsAt = (s : ℕ) (ks cs : List ℕ) (i : ℕ) (none : Count) → rising ks ≡ true → length cs ≡ length ks → i < heldBy s ks
     → getD (rowsBy s ks cs) i none
     ≡ count (getD ks (slotRank s ks + i) 0 % slotSpan) (getD cs (slotRank s ks + i) 0)
+
+-- keys that rise still do with one part more: no key gets a second row
+abbrev pub PlusRising : Type 0
+PlusRising = (key : ℕ) (cs : List Count) → rising (keysIn cs) ≡ true → rising (keysIn (plus key cs)) ≡ true
