@@ -77,6 +77,19 @@ drop-take (suc a) (suc e) (x ∷ xs) =
 pub front-part : (n : ℕ) (l : List ℕ) → take (n - 0) l ≡ take n l
 front-part n l = let all : n - 0 ≡ n = omega arith in rw all
 
+-- ---- other bytes behind the held ones
+
+-- a stream is as it was where the held bytes are
+pub right-read : (s : Stream) (old new : List ℕ) → length new ≡ length old
+    → take (s .held) new ≡ take (s .held) old → Right s old → Right s new
+right-read s old new long same r =
+    record {
+      fine = r .fine;
+      within = omega (arith, r .within, long);
+      few = r .few;
+      waits = rw same (r .waits);
+    }
+
 -- ---- a chunk after the stream has stopped
 
 module _ (s : Stream) (buf : List ℕ) (got : ℕ) (right : Right s buf) where

@@ -233,3 +233,8 @@ module _ (s : Stream) (buf : List ℕ) where
 pub put-as : {text text′ : List ℕ} → text ≡ text′ → {old : List ℕ} {r : ℕ} {new : List ℕ} → Put text old r new
     → Put text′ old r new
 put-as e p = rw (← e) p
+
+-- a text ends within its output
+pub put-within : (text old : List ℕ) (n : ℕ) (new : List ℕ) → Put text old n new → n ≤ length new
+put-within text old n new p =
+    omega (arith, p .count, ap length (p .laid), length-append text (drop (length text) old))

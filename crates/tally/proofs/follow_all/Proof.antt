@@ -7,7 +7,7 @@ use lib.ListN.{length}
 use denote.Ref.{now}
 use borrow.Author.Needs.{needs}
 use Rattle.following.specs.Lent.{Right}
-use Rattle.tally.proofs.Laws.{right-read}
+use Rattle.following.proofs.Carry.{right-read}
 use Rattle.tally.proofs.follow_all.Statement.{statement}
 use Rattle.tally.proofs.follow_all.Tie as tie
 

@@ -1,0 +1,91 @@
+// A stream fed record by record, each cut into chunks, and the text at its end.
+use following::Stream;
+use following::begin;
+use following::finish;
+use following::follow;
+ghost use mathlib.Core.Path.{_≡_};
+ghost use Prim.Native.Nat.{_+_, _≤_, _<_};
+ghost use lib.ListN.{length, take};
+ghost use Rattle.cases_tally.specs.Feed.{Ready, ReadyAt};
+
+pub(crate) fn say(text: &[u8]) {
+    io::write_all(1, text);
+}
+
+fn least(a: usize, b: usize) -> usize
+    requires { ⌜ (1 ≤ a) × (1 ≤ b) ⌝ }
+    ensures { λ r. ⌜ (1 ≤ r) × (r ≤ a) × (r ≤ b) ⌝ }
+{
+    if a < b { a } else { b }
+}
+
+// Lays n bytes of a record, from `from` on, behind the held ones.
+fn lay(buf: &mut [u8], held: usize, record: &[u8], from: usize, n: usize)
+    requires { ⌜ (held + n ≤ length (now buf)) × (from + n ≤ length (now «record»)) ⌝ }
+    ensures { λ _. ⌜ take held (now (buf .exit)) ≡ take held (now (buf .entry)) ⌝ }
+{
+    let mut i: usize = 0;
+    while i < n {
+        buf[held + i] = record[from + i];
+        i += 1;
+    }
+}
+
+// One chunk of a record.
+fn chunk(s: Stream, buf: &mut [u8], record: &[u8], from: usize, n: usize) -> Stream
+    requires { ⌜ Ready s (now buf) × (from + n ≤ length (now «record»)) × (n ≤ 1000) ⌝ }
+    ensures { λ r. ⌜ Ready r (now (buf .exit)) ⌝ }
+{
+    if 1000000 < s.accepted {
+        return s;
+    }
+    let held = s.held;
+    if buf.len() - held < n {
+        return s;
+    }
+    lay(buf, held, record, from, n);
+    follow(s, buf, n)
+}
+
+// A record, so many bytes a chunk.
+pub(crate) fn put(s: Stream, buf: &mut [u8], record: &[u8], cut: usize) -> Stream
+    requires { ⌜ Ready s (now buf) × (1 ≤ cut) × (cut ≤ 1000) ⌝ }
+    ensures { λ r. ⌜ Ready r (now (buf .exit)) ⌝ }
+{
+    let mut t = s;
+    let mut from: usize = 0;
+    while from < record.len() {
+        let n = least(cut, record.len() - from);
+        t = chunk(t, buf, record, from, n);
+        from += n;
+    }
+    t
+}
+
+// A stream of which nothing has come.
+fn start() -> Stream
+    ensures { λ r. ⌜ ReadyAt r ⌝ }
+{
+    begin()
+}
+
+// The first record of a stream.
+pub(crate) fn put_first(buf: &mut [u8], record: &[u8], cut: usize) -> Stream
+    requires { ⌜ (1 ≤ cut) × (cut ≤ 1000) ⌝ }
+    ensures { λ r. ⌜ Ready r (now (buf .exit)) ⌝ }
+{
+    put(start(), buf, record, cut)
+}
+
+// What the tally program would write, below a line that names the stream and its cut.
+pub(crate) fn end(name: &[u8], cut: usize, s: Stream, buf: &[u8])
+    requires { ⌜ Ready s (now buf) ⌝ }
+{
+    let mut text = io::large_buffer();
+    let n = finish(s, buf, &mut text);
+    say(name);
+    say(b", ");
+    io::print_decimal(1, cut as u64);
+    say(b" a chunk\n");
+    say(&text[0..n]);
+}
