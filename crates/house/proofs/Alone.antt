@@ -35,7 +35,7 @@ use Rattle.house.specs.History.{Call, Open, Deliver, Report, Close, Figu
 use Rattle.house.specs.History.{reached, names, named, Sent, AllSent}
 use Rattle.house.specs.Tally.{rowOf}
 use Rattle.house.specs.Laws.{Shaped}
-use Rattle.house.specs.Demands.{asking, needs, promised, Isolated}
+use Rattle.house.specs.Demands.{asking, needs, assured, Isolated}
 use Rattle.house.proofs.Delivering.{granted-held, granted-below}
 use Rattle.house.proofs.Reporting.{open-within, report-short}
 use Rattle.house.proofs.Keeping.{key-low, after-keeps, after-shaped, reached-sound}
@@ -232,17 +232,17 @@ module _ (slot : ℕ) (h g : House) (a : Alike slot h g) (sh : Shaped h) (sg : S
         }
 
 -- the calls that name another slot may be left out
-promised-alike : (slot : ℕ) (cs : List Call) (h g : House) → AllSent cs → Alike slot h g → Shaped h → Shaped g
-    → sound h ≡ true → sound g ≡ true → promised slot h cs ≡ promised slot g (named slot cs)
-promised-alike slot [] h g sent a sh sg eh eg = refl
-promised-alike slot (c ∷ cs) h g sent a sh sg eh eg =
+assured-alike : (slot : ℕ) (cs : List Call) (h g : House) → AllSent cs → Alike slot h g → Shaped h → Shaped g
+    → sound h ≡ true → sound g ≡ true → assured slot h cs ≡ assured slot g (named slot cs)
+assured-alike slot [] h g sent a sh sg eh eg = refl
+assured-alike slot (c ∷ cs) h g sent a sh sg eh eg =
     go (names slot c) refl
-    (λ x y b sx sy ex ey. promised-alike slot cs x y (sent .1) b sx sy ex ey)
+    (λ x y b sx sy ex ey. assured-alike slot cs x y (sent .1) b sx sy ex ey)
   where
     go : (n : Bool) → names slot c ≡ n
         → ((x y : House) → Alike slot x y → Shaped x → Shaped y → sound x ≡ true → sound y ≡ true
-        → promised slot x cs ≡ promised slot y (named slot cs))
-        → promised slot h (c ∷ cs) ≡ promised slot g (cond n (c ∷ named slot cs) (named slot cs))
+        → assured slot x cs ≡ assured slot y (named slot cs))
+        → assured slot h (c ∷ cs) ≡ assured slot g (cond n (c ∷ named slot cs) (named slot cs))
     go false other rest =
         rw other
         (rest (after h c) g (alike-on slot (after h c) h g (else-alike slot h c sh (sent .0) other) a)
@@ -251,8 +251,8 @@ promised-alike slot (c ∷ cs) h g sent a sh sg eh eg =
         rw (own, fits-alike slot h g a sh sg eh eg c (sent .0)) (by (fits slot h g a sh sg eh eg c (sent .0) g) refl)
       where
         by : (b : Bool) → fits slot h g a sh sg eh eg c (sent .0) g ≡ b
-            → cond b (reply h c ∷ promised slot (after h c) cs) []
-            ≡ cond b (reply g c ∷ promised slot (after g c) (named slot cs)) []
+            → cond b (reply h c ∷ assured slot (after h c) cs) []
+            ≡ cond b (reply g c ∷ assured slot (after g c) (named slot cs)) []
         by false is = refl
         by true is =
             rw (
@@ -301,6 +301,6 @@ isolated past other slot floor cs ds sp so sc sd granted-past granted-other same
     let eg = after-keeps (reached fresh other) (Open slot floor) tt pg qg in
     let alike =
     opened-alike slot floor (reached fresh past) (reached fresh other) ph pg qh qg granted-past granted-other in
-    promised-alike slot cs h g sc alike sh sg eh eg
-    ∙ ap (promised slot g) same
-    ∙ sym (promised-alike slot ds g g sd (alike-same slot g) sg sg eg eg)
+    assured-alike slot cs h g sc alike sh sg eh eg
+    ∙ ap (assured slot g) same
+    ∙ sym (assured-alike slot ds g g sd (alike-same slot g) sg sg eg eg)

@@ -3,7 +3,7 @@
 -- house, its slots and its rows" and "How the promises are held to account".
 --
 --   needs      the rows that a session needs at a call
---   promised   the replies to a session while it is open and needs no more rows than its floor
+--   assured    the replies to a session while it is open and needs no more rows than its floor
 -- Assumes nothing.
 use mathlib.Core.Path.{_≡_}
 use mathlib.Core.Bool.{Bool, true, false, cond, not, _&&_}
@@ -184,18 +184,18 @@ needs h slot (Close i) = heldBy slot (keysOf h)
 needs h slot Figured = heldBy slot (keysOf h)
 
 -- the replies to the calls that name a slot, while it is open, up to the first at which it needs more than its floor
-abbrev pub promised : ℕ → House → List Call → List Reply
-promised slot h [] = []
-promised slot h (c ∷ cs) =
+abbrev pub assured : ℕ → House → List Call → List Reply
+assured slot h [] = []
+assured slot h (c ∷ cs) =
     cond (names slot c)
     (cond (slotAt h slot .taken && leb (needs h slot c) (slotAt h slot .floor))
-    (reply h c ∷ promised slot (after h c) cs) [])
-    (promised slot (after h c) cs)
+    (reply h c ∷ assured slot (after h c) cs) [])
+    (assured slot (after h c) cs)
 
 -- once its opening is granted, they are the same in any two histories that agree on the calls that name it
 abbrev pub Isolated : Type 0
 Isolated = (past other : List Call) (slot floor : ℕ) (cs ds : List Call) → AllSent past → AllSent other → AllSent cs
     → AllSent ds → openSlot (reached fresh past) slot floor .answer ≡ Done
     → openSlot (reached fresh other) slot floor .answer ≡ Done → named slot cs ≡ named slot ds
-    → promised slot (after (reached fresh past) (Open slot floor)) cs
-    ≡ promised slot (after (reached fresh other) (Open slot floor)) ds
+    → assured slot (after (reached fresh past) (Open slot floor)) cs
+    ≡ assured slot (after (reached fresh other) (Open slot floor)) ds

@@ -15,7 +15,7 @@ use Rattle.frames.specs.Frames.{isRecord}
 use Rattle.kinds.specs.Kinds.{named, kindOf}
 use Rattle.bodies.specs.Bodies.{readBody}
 use Rattle.bodies.specs.Values.{softBinFits}
-use Rattle.marked.specs.Night.{NightAnswers, NightTally, NightPromised}
+use Rattle.marked.specs.Night.{NightAnswers, NightTally, NightAssured}
 
 pub night-answers : NightAnswers
 unfolding sound rowsSound slotsSound slotSound promisedFrom unfilled granted rowTaken resultedIf settled delivered
@@ -31,9 +31,9 @@ unfolding sound rowsSound slotsSound slotSound promisedFrom unfilled granted row
     judgeLater judge isRecord named kindOf readBody softBinFits
 night-tally = refl
 
-pub night-promised : NightPromised
+pub night-assured : NightAssured
 unfolding sound rowsSound slotsSound slotSound promisedFrom unfilled granted rowTaken resultedIf settled delivered
     openSlot deliver rowAt reported heldBy sumBy rowRight rowsRight countedMore countedNew counted plus risingFrom
     rising rank held allBelow insertAt removeAt session.sound partsRight judgeIn judgeFirst judgePir judgePrr
     judgeLater judge isRecord named kindOf readBody softBinFits
-night-promised = refl
+night-assured = refl

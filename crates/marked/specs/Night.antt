@@ -15,7 +15,7 @@ use Rattle.answers.specs.Numbers.{numberOf}
 use Rattle.house.specs.House.{fresh}
 use Rattle.house.specs.History.{Call, Open, Deliver, Report, Said, Told, Listed, answerOf, after, history}
 use Rattle.house.specs.Tally.{tallied}
-use Rattle.house.specs.Demands.{promised}
+use Rattle.house.specs.Demands.{assured}
 
 abbrev pub far : List ℕ
 far = 2 ∷ 0 ∷ 0 ∷ 10 ∷ 2 ∷ 4 ∷ []
@@ -55,8 +55,8 @@ abbrev pub NightTally : Type 0
 NightTally = tallied 0 (history fresh night) ≡ record { head = 1; site = 1; bin = 3; count = 2 } ∷ []
 
 -- the promise of isolation covers slot 0's eleven calls, its report among them
-abbrev pub NightPromised : Type 0
-NightPromised = promised 0 (after fresh (Open 0 1023))
+abbrev pub NightAssured : Type 0
+NightAssured = assured 0 (after fresh (Open 0 1023))
     (Open 1 0 ∷ begins 1 ++ part 1 7 ++ begins 0 ++ part 0 3 ++ part 1 5 ++ part 0 3 ++ (Report 0 8 ∷ []))
     ≡ Told Done ∷ Told Done ∷ Told Done ∷ Told Done ∷ Told Done ∷ Told Done
     ∷ Listed Done (record { head = 1; site = 1; bin = 3; count = 2 } ∷ []) ∷ []
