@@ -1,4 +1,4 @@
-// Delivers one record a hundred thousand times to a house with 1,000 rows held, by value: what a call costs at the door.
+// Delivers one record a hundred thousand times to a house with 1,000 rows held, by value: what a call costs.
 // The record is a PTR, whose body is not read: nearly every record of a real lot. It prints the last figures.
 use house::Figures;
 use house::House;

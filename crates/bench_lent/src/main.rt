@@ -1,5 +1,5 @@
-// Delivers records over lent rows, one after another: what the lent core costs. Two streams go to one session, each many
-// times over: PIR and PRR pairs under 1,024 keys in no order, then PTRs of 30 bytes, whose bodies are not read.
+// Delivers records over lent rows, one after another: what the lent core costs. Two streams go to one session, each
+// many times over: PIR and PRR pairs under 1,024 keys in no order, then PTRs of 30 bytes, whose bodies are not read.
 use core::deliver_lent;
 use house::Room;
 use numbers::Order;
@@ -94,7 +94,8 @@ fn follow(
 ) -> Ran
     requires { ⌜ Lending room (core (now keys) (now counts) (from .used) (from .standing) (now parts)) (1 + before) ⌝ }
     requires { ⌜ (before + turns < 4294967295) × (0 < length (now stream)) × (from .accepted ≤ before) ⌝ }
-    ensures { λ r. ⌜ Lending room (core (now (keys .exit)) (now (counts .exit)) (r .used) (r .standing) (now (parts .exit)))
+    ensures { λ r. ⌜ Lending room
+        (core (now (keys .exit)) (now (counts .exit)) (r .used) (r .standing) (now (parts .exit)))
         (1 + (before + turns)) × (r .accepted ≤ before + turns) ⌝ }
 {
     let mut used = from.used;

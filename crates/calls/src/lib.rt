@@ -177,7 +177,8 @@ fn plain_answer(verdict: Verdict) -> Answer
 
 // .. to an open slot of a sound house. A record that asks for no row is settled in the slot, and no row is touched.
 fn deliver_to(house: House, i: usize, s: Slot, rec: &[u8]) -> Answered
-    requires { ⌜ (sound house ≡ true) × (i < 16) × (s ≡ slotAt house i) × (s .taken ≡ true) × (length (house .slots) ≡ 16) ⌝ }
+    requires { ⌜ (sound house ≡ true) × (i < 16) × (s ≡ slotAt house i) × (s .taken ≡ true)
+        × (length (house .slots) ≡ 16) ⌝ }
     ensures { λ r. ⌜ r ≡ withOutcome house i (deliveredTo house i (now (rec .entry))) ⌝ }
 {
     let mut h = house;

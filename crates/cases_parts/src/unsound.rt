@@ -1,6 +1,6 @@
-// Sessions built by hand: each that is not sound is 15, whatever the record, beside the sound one at its boundary. The
-// record is a PTR: out of place before the MIR and behind the MRR, taken elsewhere. A session keeps its parts rising, so
-// a list that does not rise is not sound, even of distinct parts.
+// Sessions built by hand: each that is not sound is 15, whatever the record, beside the sound one at its boundary.
+// The record is a PTR: out of place before the MIR and behind the MRR, taken elsewhere. A session keeps its parts
+// rising, so a list that does not rise is not sound, even of distinct parts.
 use crate::deliver::deliver;
 use crate::records::Step;
 use crate::text::say;

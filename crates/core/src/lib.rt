@@ -1,4 +1,4 @@
-// What the calls do inside, over lent rows and parts: is the house sound, what is promised, what a record does to a slot.
+// What the calls do inside, over lent rows and parts: is the house sound, what is promised, what does a record do.
 // A caller that knows its house to be sound delivers here, record by record, with nothing tested twice or copied.
 mod delivering;
 mod rooms;

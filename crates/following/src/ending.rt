@@ -106,8 +106,8 @@ fn left_over(s: Stream, bytes: &[u8]) -> u8
 
 fn finish_going(s: Stream, buf: &[u8], out: &mut [u8]) -> usize
     requires { ⌜ (s .held ≤ length (now buf)) × (s .accepted + 1 ≤ pastCount) × (mostText ≤ length (now out)) ⌝ }
-    ensures { λ r. ⌜ Put (endedWith (streamHouse s) (s .accepted) (take (s .held) (now (buf .entry)))) (now (out .entry))
-        r (now (out .exit)) ⌝ }
+    ensures { λ r. ⌜ Put (endedWith (streamHouse s) (s .accepted) (take (s .held) (now (buf .entry))))
+        (now (out .entry)) r (now (out .exit)) ⌝ }
 {
     let held = s.held;
     if 0 < held {

@@ -1,5 +1,5 @@
-// The lines that end a stream: document 01, "Tally program". Each writer puts its bytes at the start of the part that it
-// is lent; a row's line goes to an offset.
+// The lines that end a stream: document 01, "Tally program". Each writer puts its bytes at the start of the part that
+// it is lent; a row's line goes to an offset.
 use house::Row;
 use layouts::Field;
 use layouts::Layout;
@@ -16,7 +16,8 @@ ghost use Prim.Native.Nat.{_+_, _≤_};
 ghost use lib.ListN.{length};
 ghost use Rattle.placing.specs.Placed.{Put, Room};
 ghost use Rattle.digits.specs.Digits.{digits};
-ghost use Rattle.following.specs.Text.{lastNumber, recordNumber, refusedLine, tooLongLine, unfinishedLine, rowLine};
+ghost use Rattle.following.specs.Text.{lastNumber, recordNumber, refusedLine, tooLongLine, unfinishedLine};
+ghost use Rattle.following.specs.Text.{rowLine};
 ghost use Rattle.following.specs.Saying.{mostLine, FieldOf, RowLined, LaidAt};
 
 // A number of any width in decimal: the digits of the quotient, then the last one.

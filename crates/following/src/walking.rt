@@ -48,7 +48,8 @@ fn take_record(
     n: usize,
 ) -> Stage
     requires { ⌜ Walkable (now keys) (now counts) (now parts) s (now bytes) × (s .more ≡ true) ⌝ }
-    requires { ⌜ (n ≡ needed (stageStanding s) (rest s (now bytes))) × (n ≤ mostLength) × (s .at + n ≤ length (now bytes)) ⌝ }
+    requires { ⌜ (n ≡ needed (stageStanding s) (rest s (now bytes))) × (n ≤ mostLength)
+        × (s .at + n ≤ length (now bytes)) ⌝ }
     ensures { λ r. ⌜ Stepped (now (keys .entry)) (now (counts .entry)) (now (parts .entry)) s (now (keys .exit))
         (now (counts .exit)) (now (parts .exit)) r (now (bytes .entry)) ⌝ }
 {

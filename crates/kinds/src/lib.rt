@@ -120,8 +120,8 @@ fn code_of(typ: u8, sub: u8) -> u32
     typ as u32 * 256 + sub as u32
 }
 
-// The kind that the table gives a type and a subtype. The table is handed in: a constant that is named in a loop is laid
-// out anew at each turn.
+// The kind that the table gives a type and a subtype. The table is handed in: a constant that is named in a loop is
+// laid out anew at each turn.
 fn searched(table: [Pair; PAIR_COUNT], typ: u8, sub: u8) -> Kind
     requires { ⌜ table ≡ pairs ⌝ }
     ensures { λ r. ⌜ r ≡ kindOf typ sub ⌝ }
