@@ -1,7 +1,7 @@
 -- What a stream that is fed here is between two chunks.
 -- Assumes nothing.
 use mathlib.Core.List.{List}
-use Prim.Native.Nat.{ℕ, _+_, _≤_}
+use Prim.Native.Nat.{ℕ, _≤_}
 use Rattle.following.specs.declared.Stream.{Stream}
 use Rattle.following.specs.Lent.{Right}
 

@@ -1,9 +1,9 @@
 -- Laws of a house where slot 0 alone is open: its room, what it lends, and what a delivery to it is.
 -- Assumes nothing.
-use mathlib.Core.Path.{_≡_, refl, ap, sym, _∙_}
-use mathlib.Core.Bool.{Bool, true, false, cond}
-use mathlib.Core.List.{List, [], _∷_}
-use Prim.Native.Nat.{ℕ, zero, suc, _+_, _-_, _≤_, _<_}
+use mathlib.Core.Path.{_≡_, refl, sym, _∙_}
+use mathlib.Core.Bool.{true}
+use mathlib.Core.List.{List}
+use Prim.Native.Nat.{ℕ, zero, suc, _+_, _-_, _<_}
 use native.Mathlib.Omega.{arith}
 use lib.ListN.{length, getD, take, replicate, getD-replicate}
 use Rattle.numbers.specs.Laws.{Bytes}
@@ -11,8 +11,7 @@ use Rattle.rows.specs.Rows.{slotCount, heldBy}
 use Rattle.session.specs.declared.Standing.{Standing}
 use Rattle.session.specs.Session.{mostOpen}
 use Rattle.house.specs.declared.House.{House}
-use Rattle.house.specs.declared.Slot.{Slot}
-use Rattle.house.specs.House.{rowCount, noSlot, closedSlot, fresh, unfilled, promisedFrom, promised, sound, keysOf}
+use Rattle.house.specs.House.{rowCount, noSlot, closedSlot, fresh, unfilled, promisedFrom, promised, sound}
 use Rattle.house.specs.Deliver.{Outcome, core, delivered, LentCore}
 use Rattle.house.specs.Calls.{slotAt, answered, openSlot, roomOf, deliver}
 use Rattle.house.specs.Laws.{Shaped}
@@ -20,14 +19,12 @@ use Rattle.house.proofs.Calling.{deliver-judged, lent-to, laid-back}
 use Rattle.house.proofs.Keeping.{deliver-keeps}
 use Rattle.house.proofs.Keeping.{open-keeps, fresh-sound}
 use Rattle.house.specs.House.{openedSlot}
-use Rattle.house.specs.Calls.{withSlot}
 use Rattle.house.proofs.Calling.{open-done}
 use Rattle.answers.specs.declared.Answer.the-variants.{Done}
 use Rattle.session.specs.Session as session
 use Rattle.following.specs.declared.Fate.the-variants.{Going}
-use Rattle.following.specs.declared.Stream.{Stream}
-use Rattle.following.specs.Following.{progress, followed, begun}
-use Rattle.following.specs.Lent.{firstSlot, houseOf, aloneRoom, streamHouse, progressOf, Right, Begun}
+use Rattle.following.specs.Following.{followed, begun}
+use Rattle.following.specs.Lent.{houseOf, aloneRoom, Begun}
 
 module _ (keys counts : List ℕ) (used : ℕ) (st : Standing) (parts : List ℕ) where
   abbrev alone : House

@@ -1,23 +1,23 @@
 -- Laws of a chunk: how the bytes of an unfinished record come to the front, and what is followed from chunk to chunk.
 -- Assumes nothing.
 use mathlib.Core.Path.{_≡_, refl, ap, sym, _∙_}
-use mathlib.Core.Bool.{Bool, true, false, false≢true}
-use mathlib.Core.List.{List, [], _∷_, _++_}
+use mathlib.Core.Bool.{true, false, false≢true}
+use mathlib.Core.List.{List, [], _∷_}
 use Prim.Native.Nat.{ℕ, zero, suc, _+_, _-_, _≤_, _<_}
 use native.Mathlib.Nat.{add-comm}
 use native.Mathlib.Numerals.{add-one}
 use native.Mathlib.Omega.{arith}
-use lib.ListN.{length, getD, take, drop, set, length-take, length-drop, length-set}
-use lib.Seq.{take-suc, take-suc-set, drop-set-lt, drop-drop, getD-drop, take-add, length-take-le, take-nil, drop-nil}
+use lib.ListN.{length, getD, take, drop, set, length-drop, length-set}
+use lib.Seq.{take-suc, take-suc-set, drop-set-lt, drop-drop, getD-drop, take-add, length-take-le, take-nil}
 use Rattle.session.specs.declared.Standing.{Standing}
 use Rattle.session.specs.Session.{mostOpen}
-use Rattle.house.specs.House.{rowCount, sound}
-use Rattle.following.specs.declared.Fate.{Fate}
+use Rattle.house.specs.House.{rowCount}
 use Rattle.following.specs.declared.Fate.the-variants.{Going, Refused, TooLong}
 use Rattle.following.specs.declared.Stream.{Stream}
 use Rattle.following.specs.declared.Stage.{Stage}
-use Rattle.following.specs.Following.{mostLength, Progress, progress, followed}
-use Rattle.following.specs.Lent.{houseOf, streamHouse, progressOf, stageStanding, walked, rest, pastCount, staged, Right, Walkable}
+use Rattle.following.specs.Following.{Progress, progress, followed}
+use Rattle.following.specs.Lent.{streamHouse, progressOf, stageStanding, walked}
+use Rattle.following.specs.Lent.{rest, pastCount, staged, Right, Walkable}
 use Rattle.following.specs.Lent.{Onward, Followed}
 use Rattle.following.proofs.Laws.{followed-chunks}
 use Rattle.following.proofs.Cuts.{stays-refused, stays-long}

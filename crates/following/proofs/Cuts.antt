@@ -1,13 +1,13 @@
 -- Laws of a stream cut into records: what bytes that hold no whole record do, and those of one record.
 -- Assumes nothing.
 use mathlib.Core.Path.{_≡_, refl, ap, sym, _∙_}
-use mathlib.Core.Bool.{Bool, true, false, cond}
+use mathlib.Core.Bool.{Bool, true, false}
 use mathlib.Core.List.{List, [], _∷_, _++_, append-assoc, append-nil}
 use Prim.Native.Nat.{ℕ, zero, suc, _+_, _-_, _≤_, _<_}
 use native.Mathlib.Omega.{arith}
-use borrow.Author.Tests.{lt-ltb, le-ltb, ltb-true, ltb-false, eq-eqb, ne-eqb}
-use lib.Dec.{ltb, eqb}
-use lib.ListN.{length, getD, take, drop, length-append, length-drop, take-append-drop, List·getD-append}
+use borrow.Author.Tests.{lt-ltb, le-ltb, ltb-true, ltb-false, ne-eqb}
+use lib.Dec.{ltb}
+use lib.ListN.{length, getD, take, drop, length-append, take-append-drop, List·getD-append}
 use lib.Seq.{take-suc, length-take-le}
 use Rattle.answers.specs.Numbers.{numberOf}
 use Rattle.numbers.specs.declared.Order.{Order}
@@ -192,7 +192,8 @@ record-taken h k n bytes is low there = go n refl
     go (suc m) e =
         let ys = take m bytes in
         let z = getD bytes m 0 in
-        let cut : take n bytes ≡ ys ++ z ∷ [] = ap (λ (i : ℕ). take i bytes) e ∙ take-suc bytes m 0 (omega (arith, e, there)) in
+        let cut : take n bytes ≡ ys ++ z ∷ [] = ap (λ (i : ℕ). take i bytes) e ∙ take-suc bytes m 0
+        (omega (arith, e, there)) in
         let all : take n bytes ++ drop n bytes ≡ bytes = take-append-drop n bytes in
         let both : (ys ++ z ∷ []) ++ drop n bytes ≡ bytes = ap (λ (x : List ℕ). x ++ drop n bytes) (sym cut) ∙ all in
         let long : length (ys ++ z ∷ []) ≡ n = ap length (sym cut) ∙ length-take-le n bytes there in

@@ -1,7 +1,7 @@
 -- The statements of specs/Laws.antt, proved.
 -- Assumes nothing.
 use mathlib.Core.Path.{_≡_, refl, ap, sym, _∙_}
-use mathlib.Core.List.{List, [], _∷_, _++_}
+use mathlib.Core.List.{List, [], _∷_}
 use Prim.Native.Nat.{ℕ}
 use Rattle.following.specs.Following.{Progress, took, followed, begun}
 use Rattle.following.specs.Text.{ended}

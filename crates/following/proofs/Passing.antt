@@ -2,7 +2,7 @@
 -- Assumes nothing.
 use mathlib.Core.Path.{_≡_, refl, ap, sym, _∙_}
 use mathlib.Core.Bool.{Bool, true, false, _&&_, _||_, false≢true}
-use mathlib.Core.List.{List, [], _∷_, _++_}
+use mathlib.Core.List.{List}
 use Prim.Native.Nat.{ℕ, _+_, _-_, _≤_, _<_}
 use native.Mathlib.Omega.{arith}
 use borrow.Author.Tests.{eqb-true, eq-eqb, ne-eqb}
@@ -12,7 +12,6 @@ use lib.Seq.{length-take-le, getD-take, getD-drop}
 use Rattle.words.proofs.Both.{both-left, both-right}
 use Rattle.answers.specs.declared.Answer.the-variants.{Done}
 use Rattle.numbers.specs.Laws.{Bytes}
-use Rattle.kinds.specs.declared.Kind.{Kind}
 use Rattle.kinds.specs.declared.Kind.the-variants as kind
 use Rattle.kinds.specs.declared.Remaining.{Remaining}
 use Rattle.kinds.specs.declared.Remaining.the-variants.{Ptr, Mpr, Ftr}
@@ -26,7 +25,6 @@ use Rattle.order.specs.declared.Place.the-variants.{Start, Header, Lot, Setup, 
 use Rattle.order.specs.declared.Step.the-variants.{To}
 use Rattle.order.specs.Order.{goes}
 use Rattle.session.specs.declared.Standing.{Standing}
-use Rattle.session.specs.declared.Verdict.{Verdict}
 use Rattle.session.specs.declared.Verdict.the-variants.{Taken}
 use Rattle.session.specs.Session.{isStart}
 use Rattle.session.specs.Judge.{at, judge}
@@ -181,5 +179,6 @@ module _ (keys counts parts : List ℕ) (s : Stage) (bytes : List ℕ) (w : Walk
         ≡ delivered aloneRoom (core keys counts (s .used) st parts) (take (s .at + n - s .at) (drop (s .at) bytes))
         = delivered-taken aloneRoom keys counts (s .used) st parts (take (s .at + n - s .at) (drop (s .at) bytes)) st
         (rw size judged) in
-        step-accepted keys counts parts s bytes w looking n is low there range refl refl Done keys counts (s .used) st parts
+        step-accepted keys counts parts s bytes w looking n is low there range refl refl Done keys counts
+        (s .used) st parts
         did (w .long) (w .paired) (w .cells) refl

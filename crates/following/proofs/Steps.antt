@@ -1,9 +1,9 @@
 -- Laws of one step of a walk over a chunk: a record accepted, refused, too long, or not whole.
 -- Assumes nothing.
 use mathlib.Core.Path.{_≡_, refl, ap, sym, _∙_}
-use mathlib.Core.Bool.{Bool, true, false, cond, false≢true}
-use mathlib.Core.List.{List, [], _∷_, _++_}
-use Prim.Native.Nat.{ℕ, zero, suc, _+_, _-_, _≤_, _<_}
+use mathlib.Core.Bool.{Bool, true, false, false≢true}
+use mathlib.Core.List.{List, []}
+use Prim.Native.Nat.{ℕ, _+_, _-_, _≤_, _<_}
 use native.Mathlib.Omega.{arith}
 use borrow.Author.Tests.{ltb-true, ltb-false}
 use lib.Dec.{ltb}
@@ -15,16 +15,15 @@ use Rattle.numbers.specs.Laws.{Bytes}
 use Rattle.session.specs.declared.Standing.{Standing}
 use Rattle.house.specs.declared.House.{House}
 use Rattle.house.specs.declared.Room.{Room}
-use Rattle.house.specs.declared.Answered.{Answered}
 use Rattle.house.specs.House.{rowCount, sound}
-use Rattle.house.specs.Deliver.{Outcome, outcome, core, delivered, LentCore}
+use Rattle.house.specs.Deliver.{outcome, core, delivered, LentCore}
 use Rattle.house.specs.Calls.{deliver}
 use Rattle.house.specs.Calls as calls
 use Rattle.following.specs.declared.Fate.{Fate}
 use Rattle.following.specs.declared.Fate.the-variants.{Going, Refused, TooLong}
 use Rattle.following.specs.declared.Stage.{Stage}
 use Rattle.following.specs.Following.{mostLength, needed, Progress, progress, answered, followed}
-use Rattle.following.specs.Lent.{houseOf, aloneRoom, stageStanding, walkHouse, walked, rest, pastCount, ahead}
+use Rattle.following.specs.Lent.{houseOf, aloneRoom, stageStanding, walkHouse, walked, rest, ahead}
 use Rattle.following.specs.Lent.{Walkable, Onward, Stepped}
 use Rattle.following.proofs.Cuts.{needed-some, waiting, record-taken, record-long, answered-done, answered-not}
 use Rattle.following.proofs.Cuts.{stays-refused}
@@ -173,7 +172,8 @@ module _ (keys counts parts : List ℕ) (s : Stage) (bytes : List ℕ) (w : Walk
     -- ---- a record that is there
 
     module _ (low : n ≤ mostLength) (there : s .at + n ≤ length bytes) (range : Bytes bytes) {room : Room}
-        (seen : room ≡ aloneRoom) {from : Standing} (stands : from ≡ stageStanding s) (a : Answer) (ks cs : List ℕ) (used : ℕ) (st : Standing) (ps : List ℕ)
+        (seen : room ≡ aloneRoom) {from : Standing} (stands : from ≡ stageStanding s) (a : Answer) (ks cs : List ℕ)
+        (used : ℕ) (st : Standing) (ps : List ℕ)
         (did : outcome a ks cs used st ps
         ≡ delivered room (core keys counts (s .used) from parts) (take (s .at + n - s .at) (drop (s .at) bytes)))
         (long : length ks ≡ rowCount) (paired : length cs ≡ rowCount) (cells : length ps ≡ 32) where

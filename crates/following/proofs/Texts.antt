@@ -1,20 +1,19 @@
 -- Laws of the text that ends a stream: how long its lines are, and that they follow each other.
 -- Assumes nothing.
 use mathlib.Core.Path.{_≡_, refl, ap, sym, _∙_}
-use mathlib.Core.Bool.{Bool, true, false, cond}
+use mathlib.Core.Bool.{Bool, true, false}
 use mathlib.Core.List.{List, [], _∷_, _++_, append-assoc}
-use Prim.Native.Nat.{ℕ, zero, suc, _+_, _-_, _*_, _/_, _≤_, _<_}
+use Prim.Native.Nat.{ℕ, zero, suc, _+_, _-_, _/_, _≤_, _<_}
 use native.Mathlib.Numerals.{add-one}
 use native.Mathlib.Omega.{arith}
 use borrow.Author.Tests.{le-leb, ltb-true, ltb-false}
 use lib.Dec.{ltb}
-use lib.ListN.{length, getD, take, drop, length-append, length-drop, length-take}
-use lib.Seq.{take-append-seam, drop-append-add, drop-drop, take-at}
+use lib.ListN.{length, getD, take, drop, length-append, length-take}
+use lib.Seq.{take-append-seam, drop-append-add, drop-drop}
 use Rattle.answers.specs.declared.Answer.{Answer}
 use Rattle.answers.specs.declared.Answer.the-variants as answer
 use Rattle.answers.specs.Numbers.{numberOf}
 use Rattle.numbers.specs.Numbers.{over}
-use Rattle.session.specs.Session.{isStart}
 use Rattle.house.specs.declared.House.{House}
 use Rattle.house.specs.declared.Row.{Row}
 use Rattle.house.specs.Report.{rowAt}
@@ -27,7 +26,7 @@ use Rattle.layouts.specs.declared.Line.{Line}
 use Rattle.layouts.specs.declared.Layout.the-variants as layout
 use Rattle.layouts.specs.Entries.{noField, meaningOf, Within, AllWithin}
 use Rattle.layouts.specs.Layouts.{laid, laidOut}
-use Rattle.following.specs.Text.{rowLine, rowLines, refusedWord, atRecord, tooLongWord, unfinishedWord}
+use Rattle.following.specs.Text.{rowLine, rowLines}
 use Rattle.following.specs.Text.{refusedLine, tooLongLine, unfinishedLine, leftOver, isEnded, closing, endedWith}
 use Rattle.following.specs.Text.{ended}
 use Rattle.following.specs.declared.Fate.the-variants.{Going, Refused, TooLong}

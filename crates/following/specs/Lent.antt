@@ -17,7 +17,6 @@ use Rattle.house.specs.declared.House.{House}
 use Rattle.house.specs.declared.Slot.{Slot}
 use Rattle.house.specs.declared.Room.{Room}
 use Rattle.house.specs.House.{rowCount, closedSlot, sound}
-use Rattle.following.specs.declared.Fate.{Fate}
 use Rattle.following.specs.declared.Fate.the-variants.{Going}
 use Rattle.following.specs.declared.Stream.{Stream}
 use Rattle.following.specs.declared.Stage.{Stage}

@@ -23,7 +23,7 @@ use Rattle.house.specs.Report.{rowAt, reported}
 use Rattle.digits.specs.Digits.{digits}
 use Rattle.layouts.specs.declared.Tag.the-variants.{Hbr}
 use Rattle.layouts.specs.Columns.{lineFeed}
-use Rattle.layouts.specs.Entries.{Entry, Missing, Number, Meaning}
+use Rattle.layouts.specs.Entries.{Missing, Number, Meaning}
 use Rattle.layouts.specs.Layouts.{textOf}
 use Rattle.following.specs.declared.Fate.{Fate}
 use Rattle.following.specs.declared.Fate.the-variants.{Going, Refused, TooLong}

@@ -11,8 +11,7 @@ ghost use mathlib.Core.Bool.{true};
 ghost use Prim.Native.Nat.{_+_, _-_, _≤_};
 ghost use lib.ListN.{length, take, drop};
 ghost use Rattle.following.specs.declared.Fate.the-variants.{Going};
-ghost use Rattle.following.specs.Following.{begun};
-ghost use Rattle.following.specs.Lent.{progressOf, pastCount, Right, Begun, Followed, Staged};
+ghost use Rattle.following.specs.Lent.{pastCount, Right, Begun, Followed, Staged};
 
 // A stream of which nothing has come: slot 0 is open with floor 1,024.
 pub fn begin() -> Stream

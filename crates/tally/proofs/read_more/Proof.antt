@@ -1,6 +1,5 @@
 -- `tally::read_more` meets its contract: what is lent to the read begins behind the held bytes.
 -- Assumes nothing.
-use native.Mathlib.Omega.{arith}
 use denote.Ref.{now}
 use borrow.Author.Needs.{needs}
 use Rattle.tally.proofs.Laws.{front-kept}

@@ -4,7 +4,6 @@ use mathlib.Core.Path.{_≡_, refl, _∙_}
 use Prim.Native.Nat.{_-_, _≤_}
 use native.Mathlib.Omega.{arith}
 use lib.ListN.{length}
-use borrow.Author.Needs.{needs}
 use Rattle.cases_tally.specs.Feed.{Ready}
 use Rattle.cases_tally.proofs.feed.put.Statement.{statement}
 use Rattle.cases_tally.proofs.feed.put.Tie as tie

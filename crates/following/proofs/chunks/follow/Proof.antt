@@ -5,35 +5,27 @@ use Rattle.following.proofs.Carry.{refused-stays, long-stays}
 use Rattle.following.proofs.chunks.follow.Statement.{statement}
 use Rattle.following.proofs.chunks.follow.Tie as tie
 
--- src/chunks.rt:102:37
 enum-told : tie.Need-enum-told
 enum-told c = search needs
 
--- src/chunks.rt:102:24
 follow-on-requires : tie.Need-follow-on-requires
 follow-on-requires c κs = search needs
 
--- src/chunks.rt:103:29
 enum-told-2 : tie.Need-enum-told-2
 enum-told-2 c = search needs
 
--- src/chunks.rt:104:26
 enum-told-3 : tie.Need-enum-told-3
 enum-told-3 c = search needs
 
--- src/chunks.rt:95:1
 same-length : tie.Need-same-length
 same-length c = search needs
 
--- src/chunks.rt:95:1
 returns : tie.Need-returns
 returns c = search needs
 
--- src/chunks.rt:95:1
 returns-2 : tie.Need-returns-2
 returns-2 c = refused-stays _ _ _ (c .before .before .before .pre .0) _ (c .enum-told2 .given .1)
 
--- src/chunks.rt:95:1
 returns-3 : tie.Need-returns-3
 returns-3 c = long-stays _ _ _ (c .before .before .before .pre .0) (c .enum-told3 .given .1)
 

@@ -31,7 +31,8 @@ walk-requires c κs =
     let from = c .before .before in
     let s = start from in
     walk-begins (s .args .s) (now (s .args .buf)) (s .args .got) (s .pre .0) (s .pre .1) (s .pre .2) (s .pre .3) _
-    (front-part (s .args .s .held + s .args .got) (now (s .args .buf))) (long s) (paired s) (cells s) (from .stage-of .ensures)
+    (front-part (s .args .s .held + s .args .got) (now (s .args .buf))) (long s) (paired s) (cells s)
+    (from .stage-of .ensures)
 
 keep-requires : tie.Need-keep-requires
 keep-requires c κs =
@@ -39,7 +40,8 @@ keep-requires c κs =
     let from = staged walked in
     let s = start from in (
       walk-ends (s .args .s) (now (s .args .buf)) (s .args .got) (s .pre .0) (s .pre .1) (s .pre .2) (s .pre .3) _
-          (front-part (s .args .s .held + s .args .got) (now (s .args .buf))) _ (from .stage-of .ensures) _ _ _ _ (walked .walk .ensures .0)
+          (front-part (s .args .s .held + s .args .got) (now (s .args .buf))) _ (from .stage-of .ensures) _ _ _ _
+          (walked .walk .ensures .0)
           (walked .walk .ensures .1),
       s .pre .2,
     )
@@ -51,7 +53,8 @@ returns c =
     let from = staged walked in
     let s = start from in
     chunk-told (s .args .s) (now (s .args .buf)) (s .args .got) (s .pre .0) (s .pre .1) (s .pre .2) (s .pre .3) _
-    (front-part (s .args .s .held + s .args .got) (now (s .args .buf))) _ (from .stage-of .ensures) _ _ _ _ (walked .walk .ensures .0)
+    (front-part (s .args .s .held + s .args .got) (now (s .args .buf))) _ (from .stage-of .ensures) _ _ _ _
+    (walked .walk .ensures .0)
     (walked .walk .ensures .1) _ _ (kept .keep .ensures .0) (kept .keep .kept .0) (kept .keep .ensures .1) _
     (kept .before .before .standing-of .ensures)
 

@@ -3,7 +3,7 @@
 use mathlib.Core.Path.{_≡_, refl, ap, sym, _∙_}
 use Prim.Native.Nat.{ℕ, _-_, _≤_}
 use native.Mathlib.Omega.{arith}
-use lib.ListN.{length, take, drop}
+use lib.ListN.{take, drop}
 use denote.Ref.{now}
 use Rattle.following.proofs.Carry.{Moved, moved-none, moved-on}
 use Rattle.following.proofs.chunks.keep.Statement.{statement}

@@ -10,7 +10,8 @@ returns : tie.Need-returns
 returns c = sym (needed-first _ _ (sym (c .before .is-start .ensures) ∙ c .if1 .taken))
 
 returns-2 : tie.Need-returns-2
-returns-2 c = sym (needed-header _ _ (sym (c .before .before .is-start .ensures) ∙ c .before .if1 .left) (c .if2 .taken))
+returns-2 c = sym
+    (needed-header _ _ (sym (c .before .before .is-start .ensures) ∙ c .before .if1 .left) (c .if2 .taken))
 
 returns-3 : tie.Need-returns-3
 returns-3 c =

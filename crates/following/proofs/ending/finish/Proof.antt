@@ -26,7 +26,8 @@ put-refused-requires c κs =
     let start = told .before .before .before .before in
     omega (
       arith,
-      refused-most (start .args .s .accepted + 1) (omega (arith, start .pre .1)) (told .fate .given .0 .0) (omega arith),
+      refused-most (start .args .s .accepted + 1) (omega (arith, start .pre .1)) (told .fate .given .0 .0)
+          (omega arith),
       start .pre .2,
     )
 
@@ -49,7 +50,8 @@ returns c =
     let put = c .before .before in
     let told = put .before .before in
     let start = told .before .before .before .before in
-    put-as (ended-going (start .args .s) (now (start .args .buf)) (told .enum-told .given .1)) (put .finish-going .ensures)
+    put-as (ended-going (start .args .s) (now (start .args .buf)) (told .enum-told .given .1))
+    (put .finish-going .ensures)
 
 same-length-2 : tie.Need-same-length-2
 same-length-2 c = search needs
@@ -59,7 +61,8 @@ returns-2 c =
     let put = c .before .before in
     let told = put .before .before .before .before in
     let start = told .before .before .before .before in
-    put-as (ended-refused (start .args .s) (now (start .args .buf)) _ (told .fate .given .1)) (put .put-refused .ensures)
+    put-as (ended-refused (start .args .s) (now (start .args .buf)) _ (told .fate .given .1))
+    (put .put-refused .ensures)
 
 same-length-3 : tie.Need-same-length-3
 same-length-3 c = search needs
@@ -69,7 +72,8 @@ returns-3 c =
     let put = c .before .before in
     let told = put .before .before .before in
     let start = told .before .before .before .before in
-    put-as (ended-long (start .args .s) (now (start .args .buf)) (told .enum-told2 .given .1)) (put .put-too-long .ensures)
+    put-as (ended-long (start .args .s) (now (start .args .buf)) (told .enum-told2 .given .1))
+    (put .put-too-long .ensures)
 
 pub finish-spec : {M : Type 1} → statement M
 finish-spec =

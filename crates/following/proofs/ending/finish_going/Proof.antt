@@ -1,16 +1,14 @@
 -- `following::ending::finish_going` meets its contract: bytes left over are refused; with none, the rows or unfinished.
 -- Assumes nothing.
-use mathlib.Core.Path.{_≡_, ap, sym, _∙_}
+use mathlib.Core.Path.{ap, sym, _∙_}
 use mathlib.Core.Bool.{true, false}
 use Prim.Native.Nat.{_+_, _-_}
 use native.Mathlib.Omega.{arith}
 use lib.ListN.{take}
 use denote.Ref.{now}
 use borrow.Author.Needs.{needs}
-use Rattle.house.specs.declared.House.{House}
 use Rattle.following.specs.Text.{reportLines, leftOver}
 use Rattle.following.specs.Lent.{streamHouse}
-use Rattle.following.proofs.Carry.{front-part}
 use Rattle.following.proofs.Texts.{refused-most, unfinished-most, number-low, put-left, put-closing, put-as}
 use Rattle.following.proofs.ending.finish_going.Statement.{statement}
 use Rattle.following.proofs.ending.finish_going.Tie as tie

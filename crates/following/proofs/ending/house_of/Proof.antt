@@ -1,10 +1,6 @@
 -- `following::ending::house_of` meets its contract: a fresh house, its slot 0 and its rows put in.
 -- Assumes nothing.
-use mathlib.Core.Path.{ap}
-use lib.ListN.{set}
 use borrow.Author.Needs.{needs}
-use Rattle.house.specs.declared.House.{House}
-use Rattle.following.specs.Lent.{firstSlot}
 use Rattle.following.proofs.ending.house_of.Statement.{statement}
 use Rattle.following.proofs.ending.house_of.Tie as tie
 

@@ -1,12 +1,8 @@
 -- `following::ending::left_over` meets its contract: a first record is judged by itself, a later one is 3.
 -- Assumes nothing.
-use mathlib.Core.Path.{_≡_, refl, sym, _∙_}
-use mathlib.Core.Bool.{true}
+use mathlib.Core.Path.{refl, sym, _∙_}
 use borrow.Author.Needs.{needs}
 use borrow.Author.Tests.{not-true, not-false}
-use Rattle.session.specs.Session.{isStart}
-use Rattle.house.specs.House.{sound}
-use Rattle.following.specs.Lent.{streamHouse}
 use Rattle.following.proofs.First.{first-answer, unsound-answer}
 use Rattle.following.proofs.ending.left_over.Statement.{statement}
 use Rattle.following.proofs.ending.left_over.Tie as tie

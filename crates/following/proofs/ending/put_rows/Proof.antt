@@ -1,9 +1,8 @@
 -- `following::ending::put_rows` meets its contract: line after line, each behind the last, as a report has the rows.
 -- Assumes nothing.
-use mathlib.Core.Path.{_≡_, ap, sym, _∙_}
-use Prim.Native.Nat.{ℕ, _-_, _≤_}
+use mathlib.Core.Path.{_≡_, ap, _∙_}
+use Prim.Native.Nat.{_-_, _≤_}
 use native.Mathlib.Omega.{arith}
-use denote.Ref.{now}
 use borrow.Author.Needs.{needs}
 use Rattle.house.specs.declared.Reported.{Reported}
 use Rattle.house.specs.Report.{rowsOf, reported}

@@ -21,7 +21,8 @@ sub-put-byte c =
     let put = c .before .before in
     let start = put .before .before .before in
     let a = start .args in
-    inside (digits (a .n)) (lineFeed ∷ []) (now (a .out)) (start .pre) (put .put-number .last .0) (put .put-number .result)
+    inside (digits (a .n)) (lineFeed ∷ []) (now (a .out)) (start .pre) (put .put-number .last .0)
+    (put .put-number .result)
     (put .put-number .ensures)
 
 part-put-byte-start : tie.Need-part-put-byte-start
@@ -35,7 +36,8 @@ put-byte-requires c κs =
     let put = c .before .before .before in
     let start = put .before .before .before in
     let a = start .args in
-    behind (digits (a .n)) (lineFeed ∷ []) (now (a .out)) (start .pre) (put .put-number .last .0) (put .put-number .result)
+    behind (digits (a .n)) (lineFeed ∷ []) (now (a .out)) (start .pre) (put .put-number .last .0)
+    (put .put-number .result)
     (put .put-number .ensures)
 
 returns : tie.Need-returns
@@ -44,7 +46,8 @@ returns c =
     let put = then .before .before .before .before in
     let start = put .before .before .before in
     let a = start .args in
-    both (digits (a .n)) (lineFeed ∷ []) (now (a .out)) (start .pre) (put .put-number .last .0) (put .put-number .result)
+    both (digits (a .n)) (lineFeed ∷ []) (now (a .out)) (start .pre) (put .put-number .last .0)
+    (put .put-number .result)
     (put .put-number .ensures) (then .put-byte .last .0) (then .put-byte .result) (then .put-byte .ensures)
 
 add-result : tie.Need-add-result

@@ -20,7 +20,8 @@ sub-put-record c =
     let put = c .before .before in
     let start = put .before .before .before in
     let a = start .args in
-    inside (digits (a .number)) (recordNumber (a .k)) (now (a .out)) (start .pre) (put .put-digits .last .0) (put .put-digits .result)
+    inside (digits (a .number)) (recordNumber (a .k)) (now (a .out)) (start .pre) (put .put-digits .last .0)
+    (put .put-digits .result)
     (put .put-digits .ensures)
 
 part-put-record-start : tie.Need-part-put-record-start
@@ -34,7 +35,8 @@ put-record-requires c κs =
     let put = c .before .before .before in
     let start = put .before .before .before in
     let a = start .args in
-    behind (digits (a .number)) (recordNumber (a .k)) (now (a .out)) (start .pre) (put .put-digits .last .0) (put .put-digits .result)
+    behind (digits (a .number)) (recordNumber (a .k)) (now (a .out)) (start .pre) (put .put-digits .last .0)
+    (put .put-digits .result)
     (put .put-digits .ensures)
 
 returns : tie.Need-returns
@@ -43,7 +45,8 @@ returns c =
     let put = then .before .before .before .before in
     let start = put .before .before .before in
     let a = start .args in
-    both (digits (a .number)) (recordNumber (a .k)) (now (a .out)) (start .pre) (put .put-digits .last .0) (put .put-digits .result)
+    both (digits (a .number)) (recordNumber (a .k)) (now (a .out)) (start .pre) (put .put-digits .last .0)
+    (put .put-digits .result)
     (put .put-digits .ensures) (then .put-record .last .0) (then .put-record .result) (then .put-record .ensures)
 
 add-result : tie.Need-add-result

@@ -39,8 +39,10 @@ returns c =
     let first = second .before .before .before .before in
     let start = first .before .before .before .before in
     let a = start .args in
-    both refusedWord (digits (a .number) ++ recordNumber (a .k)) (now (a .out)) (start .pre) (first .put-part .last .0) (first .put-part .result)
-    (first .put-part .ensures) (second .put-refusal .last .0) (second .put-refusal .result) (second .put-refusal .ensures)
+    both refusedWord (digits (a .number) ++ recordNumber (a .k)) (now (a .out)) (start .pre)
+    (first .put-part .last .0) (first .put-part .result)
+    (first .put-part .ensures) (second .put-refusal .last .0) (second .put-refusal .result)
+    (second .put-refusal .ensures)
 
 pub put-refused-spec : {M : Type 1} → statement M
 put-refused-spec =

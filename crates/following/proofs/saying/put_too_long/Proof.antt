@@ -37,7 +37,8 @@ returns c =
     let first = second .before .before .before .before in
     let start = first .before .before .before .before in
     let a = start .args in
-    both tooLongWord (recordNumber (a .k)) (now (a .out)) (start .pre) (first .put-part .last .0) (first .put-part .result)
+    both tooLongWord (recordNumber (a .k)) (now (a .out)) (start .pre) (first .put-part .last .0)
+    (first .put-part .result)
     (first .put-part .ensures) (second .put-record .last .0) (second .put-record .result) (second .put-record .ensures)
 
 pub put-too-long-spec : {M : Type 1} → statement M

@@ -37,7 +37,8 @@ returns c =
     let first = second .before .before .before .before in
     let start = first .before .before .before .before in
     let a = start .args in
-    both unfinishedWord (lastNumber (a .k)) (now (a .out)) (start .pre) (first .put-part .last .0) (first .put-part .result)
+    both unfinishedWord (lastNumber (a .k)) (now (a .out)) (start .pre) (first .put-part .last .0)
+    (first .put-part .result)
     (first .put-part .ensures) (second .put-last .last .0) (second .put-last .result) (second .put-last .ensures)
 
 pub put-unfinished-spec : {M : Type 1} → statement M

@@ -1,14 +1,12 @@
 -- `following::walking::step` meets its contract: each return is one law of a step.
 -- Assumes nothing.
-use mathlib.Core.Path.{_≡_, ap, sym, _∙_}
-use mathlib.Core.List.{List}
-use Prim.Native.Nat.{ℕ, _+_, _≤_}
+use mathlib.Core.Path.{_≡_, sym, _∙_}
+use Prim.Native.Nat.{_+_, _≤_}
 use native.Mathlib.Omega.{arith}
 use lib.ListN.{length}
 use denote.Ref.{now}
 use borrow.Author.Needs.{needs}
 use Rattle.numbers.specs.Laws.{Bytes}
-use Rattle.session.specs.declared.Standing.{Standing}
 use Rattle.following.specs.Following.{needed}
 use Rattle.following.specs.Lent.{rest, stageStanding}
 use Rattle.following.proofs.Cuts.{needed-some}
@@ -29,7 +27,8 @@ range : (c : tie.After-needed) → Bytes (now (start c .args .bytes))
 range c k = omega (arith, c .before .before .before .shared-slice-known .given k)
 
 told : (c : tie.After-needed)
-    → c .needed .result ≡ needed (stageStanding (start c .args .s)) (rest (start c .args .s) (now (start c .args .bytes)))
+    → c .needed .result ≡ needed (stageStanding (start c .args .s))
+    (rest (start c .args .s) (now (start c .args .bytes)))
 told c =
     told-needed (start c .args .s) (now (start c .args .bytes)) (c .before .before .standing-of .ensures)
     (c .needed .ensures)
@@ -43,7 +42,8 @@ some c = omega (
 )
 
 -- the record ends within the chunk
-ends : (c : tie.Else2) → start (asked c) .args .s .at + asked c .needed .result ≤ length (now (start (asked c) .args .bytes))
+ends : (c : tie.Else2) → start (asked c) .args .s .at + asked c .needed .result ≤ length
+    (now (start (asked c) .args .bytes))
 ends c = omega (arith, c .if2 .left, start (asked c) .pre .0 .within)
 
 standing-of-requires : tie.Need-standing-of-requires

@@ -1,6 +1,5 @@
 -- `following::walking::walk` meets its contract: every step leads to the same end, with fewer bytes ahead.
 -- Assumes nothing.
-use native.Mathlib.Omega.{arith}
 use borrow.Author.Needs.{needs}
 use Rattle.following.specs.Lent.{Onward, ahead}
 use Rattle.following.proofs.Steps.{onward-none, onward-on}
