@@ -12,8 +12,9 @@ use Rattle.order.specs.declared.Place.{Place}
 use Rattle.order.specs.declared.Place.the-variants.{Start, Header, Lot, Setup, Body, Ended}
 use Rattle.order.specs.declared.Step.{Step}
 use Rattle.order.specs.declared.Step.the-variants.{To, OutOfPlace}
-use Rattle.order.specs.Order.{byKind, goes}
+use Rattle.order.specs.Order.{byKind, goes, byPlace}
 use Rattle.order.specs.Laws.{before, ended, opening, BeforeByOpening, EndedByMrr, NeverBack, NeverStart}
+use Rattle.order.specs.Laws.{ByColumn}
 
 -- ---- one row of the table
 
@@ -173,3 +174,17 @@ never-start-at Ended q k = none q
 
 pub never-start : NeverStart
 never-start p q k e h = never-start-at p q k e (ap start h)
+
+-- ---- the columns
+
+pub by-column : ByColumn
+by-column Start k = refl
+by-column Header k = refl
+by-column Lot k = refl
+by-column Setup k = refl
+by-column Body k = refl
+by-column Ended k = refl
+
+pub column-of : (p : Place) {k is : Kind} → k ≡ is
+    → byPlace (goes Start is) (goes Header is) (goes Lot is) (goes Setup is) (goes Body is) p ≡ goes p k
+column-of p {k} {is} e = rw e (by-column p is)

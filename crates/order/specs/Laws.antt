@@ -11,7 +11,7 @@ use Rattle.kinds.specs.declared.Kind.the-variants.{Custom, Unknown}
 use Rattle.order.specs.declared.Place.{Place}
 use Rattle.order.specs.declared.Place.the-variants.{Start, Header, Lot, Setup, Body, Ended}
 use Rattle.order.specs.declared.Step.the-variants.{To}
-use Rattle.order.specs.Order.{goes}
+use Rattle.order.specs.Order.{goes, byPlace}
 
 abbrev pub before : Place → Bool
 before Start = true
@@ -61,3 +61,7 @@ NeverBack = (p q : Place) (k : Kind) → goes p k ≡ To q → before q ≡ true
 -- nothing leads back to the start, where the first record is awaited
 abbrev pub NeverStart : Type 0
 NeverStart = (p q : Place) (k : Kind) → goes p k ≡ To q → q ≡ Start → ⊥
+
+-- the table read by columns
+abbrev pub ByColumn : Type 0
+ByColumn = (p : Place) (k : Kind) → byPlace (goes Start k) (goes Header k) (goes Lot k) (goes Setup k) (goes Body k) p ≡ goes p k

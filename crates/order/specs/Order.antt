@@ -2,6 +2,7 @@
 --
 --   byKind    one step for each kind that the order tells apart: a row of the table
 --   goes      the table: where a record takes a stream from a place
+--   byPlace   one step for each place but the last: a column of the table
 --   inPlace   whether a step leads anywhere, and placeAfter where
 -- Assumes nothing.
 use mathlib.Core.Bool.{Bool, true, false}
@@ -42,6 +43,15 @@ goes Lot k = byKind out out out (To Setup) (To Setup) (To Ended) (To Body) k
 goes Setup k = byKind out out out out (To Setup) (To Ended) (To Body) k
 goes Body k = byKind out out out out out (To Ended) (To Body) k
 goes Ended k = out
+
+-- no record leaves the last place
+abbrev pub byPlace : Step → Step → Step → Step → Step → Place → Step
+byPlace start header lot setup body Start = start
+byPlace start header lot setup body Header = header
+byPlace start header lot setup body Lot = lot
+byPlace start header lot setup body Setup = setup
+byPlace start header lot setup body Body = body
+byPlace start header lot setup body Ended = out
 
 -- whether a step leads anywhere; where it does not, the refusal is 8
 abbrev pub inPlace : Step → Bool

@@ -1,8 +1,8 @@
-// The order of a stream: document 01, "Order of a stream". The code has the shape of the table in specs/Order.antt, a
-// row for each place, so each step of its proof is one row read off.
+// The order of a stream: document 01, "Order of a stream". specs/Order.antt has it as a table, a row for each place; the
+// code reads the same table by columns, one for each kind.
 use kinds::Kind;
 ghost use mathlib.Core.Path.{_≡_};
-ghost use Rattle.order.specs.Order.{byKind, goes};
+ghost use Rattle.order.specs.Order.{byPlace, goes};
 
 // Where a stream stands: before its FAR; in its header, behind the FAR and any ATRs; behind its MIR; behind an RDR or
 // SDR; in its body; behind its MRR.
@@ -21,38 +21,22 @@ pub enum Step {
     OutOfPlace,
 }
 
-// One step for each kind that the order tells apart: a row of the table.
-fn by_kind(
-    far: Step,
-    atr: Step,
-    mir: Step,
-    rdr: Step,
-    sdr: Step,
-    mrr: Step,
-    other: Step,
-    kind: Kind,
-) -> Step
-    ensures { λ r. ⌜ r ≡ byKind far atr mir rdr sdr mrr other kind ⌝ }
+// One step for each place but the last, which no record leaves: a column of the table.
+fn by_place(start: Step, header: Step, lot: Step, setup: Step, body: Step, place: Place) -> Step
+    ensures { λ r. ⌜ r ≡ byPlace start header lot setup body place ⌝ }
 {
-    match kind {
-        Kind::Far => far,
-        Kind::Atr => atr,
-        Kind::Mir => mir,
-        Kind::Rdr => rdr,
-        Kind::Sdr => sdr,
-        Kind::Mrr => mrr,
-        Kind::Pcr => other,
-        Kind::Hbr => other,
-        Kind::Sbr => other,
-        Kind::Pir => other,
-        Kind::Prr => other,
-        Kind::Remaining(_) => other,
-        Kind::Custom => other,
-        Kind::Unknown => other,
+    match place {
+        Place::Start => start,
+        Place::Header => header,
+        Place::Lot => lot,
+        Place::Setup => setup,
+        Place::Body => body,
+        Place::Ended => Step::OutOfPlace,
     }
 }
 
-// Where the next record, of that kind, takes a stream that stands at the place.
+// Where the next record, of that kind, takes a stream that stands at the place. The kind is asked first: a caller has
+// just searched for it, so what is left to ask is one place.
 pub fn next_place(place: Place, kind: Kind) -> Step
     ensures { λ r. ⌜ r ≡ goes place kind ⌝ }
 {
@@ -62,12 +46,21 @@ pub fn next_place(place: Place, kind: Kind) -> Step
     let setup = Step::To(Place::Setup);
     let body = Step::To(Place::Body);
     let ended = Step::To(Place::Ended);
-    match place {
-        Place::Start => by_kind(header, out, out, out, out, out, out, kind),
-        Place::Header => by_kind(out, header, lot, out, out, out, out, kind),
-        Place::Lot => by_kind(out, out, out, setup, setup, ended, body, kind),
-        Place::Setup => by_kind(out, out, out, out, setup, ended, body, kind),
-        Place::Body => by_kind(out, out, out, out, out, ended, body, kind),
-        Place::Ended => Step::OutOfPlace,
+    let other = by_place(out, out, body, body, body, place);
+    match kind {
+        Kind::Far => by_place(header, out, out, out, out, place),
+        Kind::Atr => by_place(out, header, out, out, out, place),
+        Kind::Mir => by_place(out, lot, out, out, out, place),
+        Kind::Rdr => by_place(out, out, setup, out, out, place),
+        Kind::Sdr => by_place(out, out, setup, setup, out, place),
+        Kind::Mrr => by_place(out, out, ended, ended, ended, place),
+        Kind::Pcr => other,
+        Kind::Hbr => other,
+        Kind::Sbr => other,
+        Kind::Pir => other,
+        Kind::Prr => other,
+        Kind::Remaining(_) => other,
+        Kind::Custom => other,
+        Kind::Unknown => other,
     }
 }
