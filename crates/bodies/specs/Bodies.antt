@@ -95,6 +95,9 @@ reading fits r = cond fits (Fits r) Misfit
 abbrev pub readFar : List ℕ → Reading
 readFar b = reading (fitsBody far b) (body.Far (farOf b))
 
+abbrev pub readMir : List ℕ → Reading
+readMir b = reading (fitsBody mir b) body.Mir
+
 abbrev pub readPcr : Order → List ℕ → Reading
 readPcr order b = reading (fitsBody pcr b) (body.Pcr (pcrOf order b))
 
@@ -110,7 +113,7 @@ readPrr order b = reading (fitsBody prr b && prrValuesFit order b) (body.Prr (pr
 -- bodies of other kinds aren't read
 unfoldable pub readBody : Order → Kind → List ℕ → Reading
 readBody order kind.Far b = readFar b
-readBody order kind.Mir b = reading (fitsBody mir b) body.Mir
+readBody order kind.Mir b = readMir b
 readBody order kind.Mrr b = reading (fitsBody mrr b) body.Mrr
 readBody order kind.Pcr b = readPcr order b
 readBody order kind.Hbr b = readBin false order b

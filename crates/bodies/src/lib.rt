@@ -7,16 +7,18 @@ use fields::MRR;
 use fields::PCR;
 use fields::PIR;
 use fields::PRR;
+use fields::fits_from;
 use fields::fits_table;
 use kinds::Kind;
 use numbers::Order;
 ghost use mathlib.Core.Path.{_≡_};
 ghost use Prim.Native.Nat.{_+_, _≤_, _<_};
 ghost use lib.ListN.{length};
+ghost use Rattle.fields.specs.Tables.{fitsBody, prr};
 ghost use Rattle.numbers.specs.Numbers.{number, front};
 ghost use Rattle.bodies.specs.Values.{countAt, passFailAt, nameAt, softBinFits, passFailFits};
 ghost use Rattle.bodies.specs.Bodies.{pcrOf, binOf, binValuesFit, prrValuesFit, reading};
-ghost use Rattle.bodies.specs.Bodies.{readFar, readPcr, readBin, readPir, readPrr, readBody};
+ghost use Rattle.bodies.specs.Bodies.{readFar, readMir, readPcr, readBin, readPir, readPrr, readBody};
 
 // An optional field: a number, or missing.
 pub enum Optional {
@@ -92,11 +94,18 @@ pub enum Reading {
     Misfit,
 }
 
+// The number is read in both orders and one is picked: a test of the order before each number costs more than reading.
 fn u2_at(order: Order, body: &[u8], at: usize) -> u16
     requires { ⌜ at + 2 ≤ length (now body) ⌝ }
     ensures { λ r. ⌜ r ≡ number order (front 2 at (now (body .entry))) ⌝ }
 {
-    numbers::u2(order, &body[at..])
+    let part = &body[at..];
+    let high_first = numbers::u2(Order::HighFirst, part);
+    let low_first = numbers::u2(Order::LowFirst, part);
+    match order {
+        Order::HighFirst => high_first,
+        Order::LowFirst => low_first,
+    }
 }
 
 fn u4_at(order: Order, body: &[u8], at: usize) -> u32
@@ -215,6 +224,13 @@ fn read_far(body: &[u8]) -> Reading
     }
 }
 
+// By itself, so that its long table is laid out for an MIR alone.
+fn read_mir(body: &[u8]) -> Reading
+    ensures { λ r. ⌜ r ≡ readMir (now (body .entry)) ⌝ }
+{
+    reading_of(fits_table(body, &MIR, 13), Record::Mir)
+}
+
 fn pcr_of(order: Order, body: &[u8]) -> Pcr
     requires { ⌜ 6 ≤ length (now body) ⌝ }
     ensures { λ r. ⌜ r ≡ pcrOf order (now (body .entry)) ⌝ }
@@ -316,10 +332,21 @@ fn prr_values_fit(order: Order, body: &[u8]) -> bool
     soft_bin_fits(order, body, 7)
 }
 
+// The first nine fields have fixed widths, 17 bytes in all: where they are there, only those behind them are walked over.
+fn fits_prr(body: &[u8]) -> bool
+    ensures { λ r. ⌜ r ≡ fitsBody prr (now (body .entry)) ⌝ }
+{
+    if body.len() < 17 {
+        fits_table(body, &PRR, 5)
+    } else {
+        fits_from(body, &PRR, 5, 17, 9)
+    }
+}
+
 fn read_prr(order: Order, body: &[u8]) -> Reading
     ensures { λ r. ⌜ r ≡ readPrr order (now (body .entry)) ⌝ }
 {
-    if fits_table(body, &PRR, 5) {
+    if fits_prr(body) {
         if prr_values_fit(order, body) {
             let bin = u2_at(order, body, 5);
             return Reading::Fits(Record::Prr(Prr {
@@ -339,7 +366,7 @@ pub fn read_body(order: Order, kind: Kind, body: &[u8]) -> Reading
 {
     match kind {
         Kind::Far => read_far(body),
-        Kind::Mir => reading_of(fits_table(body, &MIR, 13), Record::Mir),
+        Kind::Mir => read_mir(body),
         Kind::Mrr => reading_of(fits_table(body, &MRR, 1), Record::Mrr),
         Kind::Pcr => read_pcr(order, body),
         Kind::Hbr => read_bin(false, order, body),

@@ -1,9 +1,10 @@
 -- The statements of specs/Laws.antt, proved; and how the walk over a body's fields goes on.
 -- Assumes nothing.
-use mathlib.Core.Path.{_≡_, refl, sym}
-use mathlib.Core.Bool.{Bool, true, false}
-use mathlib.Core.List.{List, [], _∷_}
+use mathlib.Core.Path.{_≡_, refl, sym, _∙_}
+use mathlib.Core.Bool.{Bool, true, false, false≢true}
+use mathlib.Core.List.{List, [], _∷_, _++_}
 use Prim.Native.Nat.{ℕ, zero, suc, _+_, _-_, _≤_, _<_}
+use native.Mathlib.Nat.{sub-zero}
 use native.Mathlib.Numerals.{add-one}
 use native.Mathlib.Omega.{arith}
 use borrow.Author.Tests.{le-leb, lt-leb, leb-true, leb-false}
@@ -12,7 +13,7 @@ use lib.ListN.{length, getD, drop, length-drop, drop-of-length-le}
 use lib.Seq.{drop-cons, getD-drop, drop-drop}
 use Rattle.words.proofs.Both.{both-left, both-right}
 use Rattle.fields.specs.Fields.{size, fits, offset}
-use Rattle.fields.specs.Laws.{RequiredThere, BegunWhole}
+use Rattle.fields.specs.Laws.{fixed, sizes, RequiredThere, BegunWhole, FixedThere}
 
 -- ---- a field's size
 
@@ -98,3 +99,21 @@ begun-whole (f ∷ fs) r (suc j) (b ∷ bs) h e g =
     let begun : offset fs j left < length left = omega (arith, length-drop n (b ∷ bs)) in
     rw (← getD-drop n (b ∷ bs) (offset fs j left) 0)
     (omega (arith, length-drop n (b ∷ bs), begun-whole fs (r - 1) j left (omega arith) rest begun))
+
+-- ---- fields of fixed widths
+
+-- one field of a fixed width that is there
+fixed-on : (w : ℕ) (fs : List ℕ) (required : ℕ) (body : List ℕ) → suc w ≤ length body
+    → fits (suc w ∷ fs) required body ≡ fits fs (required - 1) (drop (suc w) body)
+fixed-on w fs required [] h = absurd (omega arith)
+fixed-on w fs required (b ∷ bs) h = rw (le-leb (suc w) (suc (length bs)) h)
+
+pub fixed-there : FixedThere
+fixed-there [] more required body e h = rw (sub-zero required)
+fixed-there (zero ∷ fs) more required body e h = absurd (false≢true e)
+fixed-there (suc w ∷ fs) more required body e h =
+    let left = drop (suc w) body in
+    let less : required - 1 - length fs ≡ required - suc (length fs) = omega arith in
+    fixed-on w (fs ++ more) required body (omega arith)
+    ∙ fixed-there fs more (required - 1) left e (omega (arith, length-drop (suc w) body))
+    ∙ rw (less, drop-drop (sizes fs) (suc w) body)

@@ -1,7 +1,8 @@
 // How a body is made of fields: document 01, "Record frame and kinds", bodies read. One table for each body, in the
 // order of its bytes, and one walk for all of them.
 ghost use mathlib.Core.Path.{_≡_};
-ghost use Prim.Native.Nat.{_≤_, _<_};
+ghost use Prim.Native.Nat.{_-_, _≤_, _<_};
+ghost use lib.ListN.{length, drop};
 ghost use Rattle.fields.specs.Fields.{size, fits};
 
 // A field's type is its width in bytes; 0 stands for the types whose count byte tells it.
@@ -94,13 +95,14 @@ fn size_of(typ: u8, first: u8) -> usize
     if typ == 0 { wide(first) + 1 } else { wide(typ) }
 }
 
-// Whether a body is made of the fields: it stops after the first `required` of them or later, not inside one and not
-// past the last.
-pub fn fits_table(body: &[u8], fields: &[u8], required: usize) -> bool
-    ensures { λ r. ⌜ r ≡ fits (now (fields .entry)) required (now (body .entry)) ⌝ }
+// Whether what is left of a body from `from` on is made of what is left of the fields behind the first `known`: the
+// body stops after the first `required` of all fields or later, not inside one and not past the last.
+pub fn fits_from(body: &[u8], fields: &[u8], required: usize, from: usize, known: usize) -> bool
+    requires { ⌜ (from ≤ length (now body)) × (known ≤ length (now fields)) ⌝ }
+    ensures { λ r. ⌜ r ≡ fits (drop known (now (fields .entry))) (required - known) (drop from (now (body .entry))) ⌝ }
 {
-    let mut at: usize = 0;
-    let mut j: usize = 0;
+    let mut at = from;
+    let mut j = known;
     while j < fields.len() {
         if body.len() <= at {
             return required <= j;
@@ -113,4 +115,11 @@ pub fn fits_table(body: &[u8], fields: &[u8], required: usize) -> bool
         j += 1;
     }
     body.len() <= at
+}
+
+// Whether a body is made of the fields.
+pub fn fits_table(body: &[u8], fields: &[u8], required: usize) -> bool
+    ensures { λ r. ⌜ r ≡ fits (now (fields .entry)) required (now (body .entry)) ⌝ }
+{
+    fits_from(body, fields, required, 0, 0)
 }

@@ -14,15 +14,13 @@ returns c = rw (c .before .enum-told .given .1) (c .read-far .ensures)
 
 returns-2 : tie.Need-returns-2
 unfolding readBody
-returns-2 c =
-    rw (c .before .before .before .enum-told2 .given .1)
-    (c .reading-of .ensures ∙ ap (λ (t : Bool). reading t body.Mir) (c .before .fits-table .ensures))
+returns-2 c = rw (c .before .enum-told2 .given .1) (c .read-mir .ensures)
 
 returns-3 : tie.Need-returns-3
 unfolding readBody
 returns-3 c =
     rw (c .before .before .before .enum-told3 .given .1)
-    (c .reading-of2 .ensures ∙ ap (λ (t : Bool). reading t body.Mrr) (c .before .fits-table2 .ensures))
+    (c .reading-of .ensures ∙ ap (λ (t : Bool). reading t body.Mrr) (c .before .fits-table .ensures))
 
 returns-4 : tie.Need-returns-4
 unfolding readBody
@@ -79,6 +77,12 @@ read-far-requires c κs = search needs
 enum-told-2 : tie.Need-enum-told-2
 enum-told-2 c = search needs
 
+read-mir-requires : tie.Need-read-mir-requires
+read-mir-requires c κs = search needs
+
+enum-told-3 : tie.Need-enum-told-3
+enum-told-3 c = search needs
+
 slice-aggregate-fits-table : tie.Need-slice-aggregate-fits-table
 slice-aggregate-fits-table c = search needs
 
@@ -87,18 +91,6 @@ fits-table-requires c κs = search needs
 
 reading-of-requires : tie.Need-reading-of-requires
 reading-of-requires c κs = search needs
-
-enum-told-3 : tie.Need-enum-told-3
-enum-told-3 c = search needs
-
-slice-aggregate-fits-table-2 : tie.Need-slice-aggregate-fits-table-2
-slice-aggregate-fits-table-2 c = search needs
-
-fits-table-requires-2 : tie.Need-fits-table-requires-2
-fits-table-requires-2 c κs = search needs
-
-reading-of-requires-2 : tie.Need-reading-of-requires-2
-reading-of-requires-2 c κs = search needs
 
 enum-told-4 : tie.Need-enum-told-4
 enum-told-4 c = search needs
@@ -155,13 +147,11 @@ read-body-spec =
     enum-told
     read-far-requires
     enum-told-2
+    read-mir-requires
+    enum-told-3
     slice-aggregate-fits-table
     fits-table-requires
     reading-of-requires
-    enum-told-3
-    slice-aggregate-fits-table-2
-    fits-table-requires-2
-    reading-of-requires-2
     enum-told-4
     read-pcr-requires
     enum-told-5

@@ -21,11 +21,11 @@ use Rattle.bodies.proofs.read_prr.Tie as tie
 abbrev said : List ℕ → ℕ → Prr
 said b n = record { head = byteOf prr 0 b; site = byteOf prr 1 b; flags = byteOf prr 2 b; bin = n }
 
-fits : (c : tie.Then1) → fitsBody prr (now (c .before .before .before .before .args .body)) ≡ true
-fits c = sym (c .before .fits-table .ensures) ∙ c .if1 .taken
+fits : (c : tie.Then1) → fitsBody prr (now (c .before .before .before .args .body)) ≡ true
+fits c = sym (c .before .fits-prr .ensures) ∙ c .if1 .taken
 
-long : (c : tie.Then1) → 7 ≤ length (now (c .before .before .before .before .args .body))
-long c = long-enough prr (now (c .before .before .before .before .args .body)) (fits c)
+long : (c : tie.Then1) → 7 ≤ length (now (c .before .before .before .args .body))
+long c = long-enough prr (now (c .before .before .before .args .body)) (fits c)
 
 prr-values-fit-requires : tie.Need-prr-values-fit-requires
 prr-values-fit-requires c κs = long c
@@ -33,54 +33,50 @@ prr-values-fit-requires c κs = long c
 u2-at-requires : tie.Need-u2-at-requires
 u2-at-requires c κs = long (c .before .before)
 
-shared-slice-read-t10 : tie.Need-shared-slice-read-t10
-shared-slice-read-t10 c = omega (arith, long (c .before .before .before .before))
+shared-slice-read-t7 : tie.Need-shared-slice-read-t7
+shared-slice-read-t7 c = omega (arith, long (c .before .before .before .before))
 
-shared-slice-read-t12 : tie.Need-shared-slice-read-t12
-shared-slice-read-t12 c = omega (arith, long (c .before .before .before .before .before))
+shared-slice-read-t9 : tie.Need-shared-slice-read-t9
+shared-slice-read-t9 c = omega (arith, long (c .before .before .before .before .before))
 
-shared-slice-read-t14 : tie.Need-shared-slice-read-t14
-shared-slice-read-t14 c = omega (arith, long (c .before .before .before .before .before .before))
+shared-slice-read-t11 : tie.Need-shared-slice-read-t11
+shared-slice-read-t11 c = omega (arith, long (c .before .before .before .before .before .before))
 
 returns : tie.Need-returns
 returns c =
     let told = c .before .before .before in
     let fine = told .before in
-    let a = fine .before .before .before .before .before .before .args in
+    let a = fine .before .before .before .before .before .args in
     ap (λ (n : ℕ). Fits (body.Prr (said (now (a .body)) n))) (told .u2-at .ensures)
     ∙ read-both _ (prrValuesFit (a .order) (now (a .body))) (fits (fine .before .before))
     (sym (fine .before .prr-values-fit .ensures) ∙ fine .if2 .taken)
 
 returns-2 : tie.Need-returns-2
 returns-2 c =
-    let a = c .before .before .before .before .before .before .args in
+    let a = c .before .before .before .before .before .args in
     read-values _ (prrValuesFit (a .order) (now (a .body))) (fits (c .before .before))
     (sym (c .before .prr-values-fit .ensures) ∙ c .if2 .left)
 
 returns-3 : tie.Need-returns-3
 returns-3 c =
-    let a = c .before .before .before .before .args in
-    read-fields _ (prrValuesFit (a .order) (now (a .body))) (sym (c .before .fits-table .ensures) ∙ c .if1 .left)
+    let a = c .before .before .before .args in
+    read-fields _ (prrValuesFit (a .order) (now (a .body))) (sym (c .before .fits-prr .ensures) ∙ c .if1 .left)
 
 -- ---- found by search
 
-slice-aggregate-fits-table : tie.Need-slice-aggregate-fits-table
-slice-aggregate-fits-table c = search needs
-
-fits-table-requires : tie.Need-fits-table-requires
-fits-table-requires c κs = search needs
+fits-prr-requires : tie.Need-fits-prr-requires
+fits-prr-requires c κs = search needs
 
 pub read-prr-spec : {M : Type 1} → statement M
 read-prr-spec =
     tie.close
     (tie.spec
-    slice-aggregate-fits-table
-    fits-table-requires
+    fits-prr-requires
     prr-values-fit-requires
     u2-at-requires
-    shared-slice-read-t10
-    shared-slice-read-t12
-    shared-slice-read-t14
+    shared-slice-read-t7
+    shared-slice-read-t9
+    shared-slice-read-t11
     returns
     returns-2
     returns-3)

@@ -1,101 +1,21 @@
--- `fields::fits_table` meets its contract: what is left of the body fits what is left of the fields just where the
--- whole does.
+-- `fields::fits_table` meets its contract: the walk begins with the first field.
 -- Assumes nothing.
-use mathlib.Core.Path.{_≡_, ap, sym, _∙_}
-use Prim.Native.Nat.{ℕ, _-_, _≤_}
+use mathlib.Core.Path.{ap, _∙_}
+use Prim.Native.Nat.{ℕ}
 use native.Mathlib.Nat.{sub-zero}
-use native.Mathlib.Omega.{arith}
-use lib.ListN.{length, drop}
 use denote.Ref.{now}
 use borrow.Author.Needs.{needs}
 use Rattle.fields.specs.Fields.{fits}
-use Rattle.fields.proofs.Laws.{walk-stops, walk-short, walk-on, walk-ends}
 use Rattle.fields.proofs.fits_table.Statement.{statement}
 use Rattle.fields.proofs.fits_table.Tie as tie
 
-abbrev Inv-loop : tie.InvT-loop
-Inv-loop body fields required at₀ j₀ at j =
-    (at ≤ length body)
-    × ((j ≤ length fields) × (fits (drop j fields) (required - j) (drop at body) ≡ fits fields required body))
+fits-from-requires : tie.Need-fits-from-requires
+fits-from-requires c κs = search needs
 
-abbrev μ-loop : tie.MeasureT-loop
-μ-loop body fields required at₀ j₀ at j = length fields - j
-
-loop-holds : tie.Need-loop-holds Inv-loop μ-loop
-loop-holds c =
-    let a = c .before .before .args in
-    (omega arith, (omega arith, ap (λ (r : ℕ). fits (now (a .fields)) r (now (a .body))) (sub-zero _)))
-
-returns : tie.Need-returns Inv-loop μ-loop
+returns : tie.Need-returns
 returns c =
-    let turn = c .before in
-    sym (walk-stops _ _ _ _ _ (turn .loop-test .taken) (c .if1 .taken)) ∙ turn .before .loop .inv .1 .1
-
-returns-2 : tie.Need-returns-2 Inv-loop μ-loop
-returns-2 c =
-    let sized = c .before in
-    let begun = sized .before .before .before in
-    let turn = begun .before in
-    sym (walk-short _ _ _ _ _ _ (turn .loop-test .taken) (begun .if1 .left) (sized .size-of .ensures .0)
-    (c .if2 .taken))
-    ∙ turn .before .loop .inv .1 .1
-
-loop-again : tie.Need-loop-again Inv-loop μ-loop
-loop-again c =
-    let sized = c .before in
-    let begun = sized .before .before .before in
-    let turn = begun .before in (
-      omega arith,
-      (
-        omega arith,
-        walk-on _ _ _ _ _ _ (turn .loop-test .taken) (begun .if1 .left) (sized .size-of .ensures .0) (c .if2 .left)
-            ∙ turn .before .loop .inv .1 .1,
-      ),
-    )
-
-returns-3 : tie.Need-returns-3 Inv-loop μ-loop
-returns-3 c =
-    let l = c .before .loop in
-    sym (walk-ends _ _ _ _ _ (c .loop-test .left) (l .inv .0)) ∙ l .inv .1 .1
-
--- ---- found by search
-
-shared-slice-read-size-of : tie.Need-shared-slice-read-size-of Inv-loop μ-loop
-shared-slice-read-size-of c = search needs
-
-shared-slice-read-size-of-2 : tie.Need-shared-slice-read-size-of-2 Inv-loop μ-loop
-shared-slice-read-size-of-2 c = search needs
-
-size-of-requires : tie.Need-size-of-requires Inv-loop μ-loop
-size-of-requires c κs = search needs
-
-sub-if2 : tie.Need-sub-if2 Inv-loop μ-loop
-sub-if2 c = search needs
-
-add-at : tie.Need-add-at Inv-loop μ-loop
-add-at c = search needs
-
-add-j : tie.Need-add-j Inv-loop μ-loop
-add-j c = search needs
-
-loop-less : tie.Need-loop-less Inv-loop μ-loop
-loop-less c = search needs
+    let a = c .before .before .before .args in
+    c .fits-from .ensures ∙ ap (λ (r : ℕ). fits (now (a .fields)) r (now (a .body))) (sub-zero _)
 
 pub fits-table-spec : {M : Type 1} → statement M
-fits-table-spec =
-    tie.close
-    (tie.spec
-    Inv-loop
-    μ-loop
-    loop-holds
-    returns
-    shared-slice-read-size-of
-    shared-slice-read-size-of-2
-    size-of-requires
-    sub-if2
-    returns-2
-    add-at
-    add-j
-    loop-less
-    loop-again
-    returns-3)
+fits-table-spec = tie.close (tie.spec fits-from-requires returns)
