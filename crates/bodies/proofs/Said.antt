@@ -1,12 +1,12 @@
 -- The statements of specs/Laws.antt, proved: what the reading of each kind can say.
 -- Assumes nothing.
 use mathlib.Core.Path.{_≡_, refl, sym, subst}
-use mathlib.Core.Bool.{Bool, true, false, cond, not, _&&_}
+use mathlib.Core.Bool.{Bool, true, false, _&&_}
 use mathlib.Core.List.{List}
-use Prim.Native.Nat.{ℕ, _%_, _≤_, _<_}
+use Prim.Native.Nat.{ℕ, _<_}
 use native.Mathlib.Omega.{arith}
 use borrow.Author.Tests.{leb-true, eqb-false, not-true}
-use lib.Dec.{eqb, leb}
+use lib.Dec.{eqb}
 use lib.ListN.{getD}
 use Rattle.words.proofs.Both.{both-left, both-right}
 use Rattle.numbers.specs.declared.Order.{Order}
@@ -16,8 +16,7 @@ use Rattle.kinds.specs.declared.Kind.the-variants as kind
 use Rattle.fields.specs.Tables.{fitsBody, far, mir, mrr, pcr, bin, pir, prr}
 use Rattle.bodies.specs.declared.Record.{Record}
 use Rattle.bodies.specs.declared.Record.the-variants as said
-use Rattle.bodies.specs.declared.Reading.{Reading}
-use Rattle.bodies.specs.declared.Reading.the-variants.{Fits, Misfit}
+use Rattle.bodies.specs.declared.Reading.the-variants.{Fits}
 use Rattle.bodies.specs.Values.{partHeadFits, flagFits, binFits, softBinFits}
 use Rattle.bodies.specs.Bodies.{farOf, pcrOf, binOf, pirOf, prrOf, valueOf}
 use Rattle.bodies.specs.Bodies.{binValuesFit, pirValuesFit, prrValuesFit}

@@ -16,7 +16,7 @@ use Rattle.rising.specs.Rising.{risingFrom, rising, rank, held, allBelow
 use Rattle.rising.specs.Laws.{InsertWhole, InsertTaken, InsertLength, RemoveWhole, RemoveTaken, RemoveLength}
 use Rattle.rising.specs.Laws.{RankWithin, RankUp, RankDown, HeldAt, HeldPast, HeldRank, NewRank}
 use Rattle.rising.specs.Laws.{HeldInsert, HeldRemove, RisingInsert, RisingRemove, BelowInsert, BelowRemove}
-use Rattle.rising.specs.Laws.{BelowLast, RisingApart}
+use Rattle.rising.specs.Laws.{BelowLast, RisingApart, RankOwn}
 
 -- ---- tests
 
@@ -39,7 +39,7 @@ or-gone true d h = h refl
 or-gone false d h = refl
 
 -- a number is below a key or is not: the way every argument by the rank goes
-side : {C : Type 0} (x k : ℕ) → (x < k → C) → (k ≤ x → C) → C
+pub side : {C : Type 0} (x k : ℕ) → (x < k → C) → (k ≤ x → C) → C
 side {C} x k low high = go (ltb x k) refl
   where
     go : (t : Bool) → ltb x k ≡ t → C
@@ -48,15 +48,15 @@ side {C} x k low high = go (ltb x k) refl
 
 -- ---- a list that rises
 
-rising-head : (b x : ℕ) (xs : List ℕ) → risingFrom b (x ∷ xs) ≡ true → b ≤ x
+pub rising-head : (b x : ℕ) (xs : List ℕ) → risingFrom b (x ∷ xs) ≡ true → b ≤ x
 unfolding risingFrom
 rising-head b x xs e = leb-true b x (and-eq-true-iff (leb b x) (risingFrom (suc x) xs) .0 e .0)
 
-rising-rest : (b x : ℕ) (xs : List ℕ) → risingFrom b (x ∷ xs) ≡ true → risingFrom (suc x) xs ≡ true
+pub rising-rest : (b x : ℕ) (xs : List ℕ) → risingFrom b (x ∷ xs) ≡ true → risingFrom (suc x) xs ≡ true
 unfolding risingFrom
 rising-rest b x xs e = and-eq-true-iff (leb b x) (risingFrom (suc x) xs) .0 e .1
 
-rising-cons : (b x : ℕ) (xs : List ℕ) → b ≤ x → risingFrom (suc x) xs ≡ true → risingFrom b (x ∷ xs) ≡ true
+pub rising-cons : (b x : ℕ) (xs : List ℕ) → b ≤ x → risingFrom (suc x) xs ≡ true → risingFrom b (x ∷ xs) ≡ true
 unfolding risingFrom
 rising-cons b x xs h e = rw (le-leb b x h) e
 
@@ -115,12 +115,12 @@ rank-down k (x ∷ xs) (suc m) h g =
 
 -- ---- whether a key is held
 
-held-other : (k x : ℕ) (xs : List ℕ) → (x ≡ k → ⊥) → held k (x ∷ xs) ≡ held k xs
+pub held-other : (k x : ℕ) (xs : List ℕ) → (x ≡ k → ⊥) → held k (x ∷ xs) ≡ held k xs
 unfolding held
 held-other k x xs h = rw (ne-eqb x k h)
 
 -- a key below the bound is not held
-held-low : (b k : ℕ) (xs : List ℕ) → risingFrom b xs ≡ true → k < b → held k xs ≡ false
+pub held-low : (b k : ℕ) (xs : List ℕ) → risingFrom b xs ≡ true → k < b → held k xs ≡ false
 unfolding held
 held-low b k [] e h = refl
 held-low b k (x ∷ xs) e h =
@@ -373,3 +373,10 @@ apart-from b (x ∷ xs) (suc i) (suc j) e h l =
 pub rising-apart : RisingApart
 unfolding rising
 rising-apart xs i j e h l = apart-from 0 xs i j e h l
+
+pub rank-own : RankOwn
+rank-own xs zero e h = omega (arith, rank-down (getD xs 0 0) xs 0 h (omega arith))
+rank-own xs (suc m) e h =
+    let k = getD xs (suc m) 0 in
+    let below : getD xs m 0 < k = rising-apart xs m (suc m) e (omega arith) h in
+    omega (arith, rank-up k xs m e (omega arith) below, rank-down k xs (suc m) h (omega arith))

@@ -1,7 +1,7 @@
 -- The laws as the code meets them: the rank by the elements of the slice, and what one turn of each loop leaves to
 -- do.
 -- Assumes nothing.
-use mathlib.Core.Path.{_≡_, refl, sym, _∙_}
+use mathlib.Core.Path.{_≡_, refl, sym, ap, _∙_}
 use mathlib.Core.Bool.{Bool, true, false}
 use mathlib.Core.List.{List, [], _∷_, _++_, append-assoc}
 use Prim.Native.Nat.{ℕ, zero, suc, _+_, _-_, _≤_, _<_, zero-le, suc-le-suc}
@@ -14,7 +14,7 @@ use lib.ListN.{length, getD, take, drop, set, take-append-drop, length-set, drop
 use lib.Seq.{length-take-le, take-suc, take-append-le, take-set-le, take-suc-set}
 use lib.Seq.{drop-cons, drop-append-le, drop-set-lt, append-snoc, getD-take, getD-set-same, set-split, slice-cons}
 use Rattle.rising.specs.Rising.{risingFrom, rising, rank, held, inserted, insertAt, removeAt}
-use Rattle.rising.proofs.Laws.{insert-whole, rank-within, rank-up, rank-down, held-at, held-past}
+use Rattle.rising.proofs.Laws.{insert-whole, rank-within, rank-up, rank-down, rank-own, held-at, held-past}
 
 -- ---- the rank in the list at the start, by the elements of the longer one
 
@@ -33,6 +33,11 @@ module _ (l : List ℕ) (used k : ℕ) (fits : used ≤ length l) where
     pub kept-down : (m : ℕ) → m < used → k ≤ getD l m 0 → rank k (take used l) ≤ m
     kept-down m h g =
         rank-down k (take used l) m (omega (arith, kept)) (rw (getD-take used l m 0 h) g)
+
+    pub kept-own : (m : ℕ) → m < used → getD l m 0 ≡ k → m ≡ rank k (take used l)
+    kept-own m h e =
+        let same : getD (take used l) m 0 ≡ k = getD-take used l m 0 h ∙ e in
+        sym (rank-own (take used l) m rises (omega (arith, kept))) ∙ ap (λ (x : ℕ). rank x (take used l)) same
 
     pub kept-at : (at : ℕ) → at ≡ rank k (take used l) → at < used → eqb (getD l at 0) k ≡ held k (take used l)
     kept-at at e h =

@@ -54,6 +54,10 @@ RankUp = (k : ℕ) (xs : List ℕ) (m : ℕ) → rising xs ≡ true → m < leng
 abbrev pub RankDown : Type 0
 RankDown = (k : ℕ) (xs : List ℕ) (m : ℕ) → m < length xs → k ≤ getD xs m 0 → rank k xs ≤ m
 
+-- an element of a rising list stands at its own rank
+abbrev pub RankOwn : Type 0
+RankOwn = (xs : List ℕ) (m : ℕ) → rising xs ≡ true → m < length xs → rank (getD xs m 0) xs ≡ m
+
 -- ---- whether a key is held
 
 -- in a rising list the element at the rank tells: this is the test that the code makes

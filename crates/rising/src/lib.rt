@@ -75,6 +75,19 @@ pub fn rank_among(s: &[u64], used: usize, most: usize, key: u64) -> usize
     if s[at] < key { at + 1 } else { at }
 }
 
+// The same, with a guess, which may be any number: where it is right there is nothing to search.
+pub fn rank_guessed(s: &[u64], used: usize, most: usize, guess: usize, key: u64) -> usize
+    requires { ⌜ (used ≤ most) × (most ≤ 65536) × (used ≤ length (now s)) × (rising (take used (now s)) ≡ true) ⌝ }
+    ensures { λ r. ⌜ r ≡ rank key (take used (now (s .entry))) ⌝ }
+{
+    if guess < used {
+        if s[guess] == key {
+            return guess;
+        }
+    }
+    rank_among(s, used, most, key)
+}
+
 // Whether the list holds `key`, whose rank is `at`.
 pub fn holds(s: &[u64], used: usize, at: usize, key: u64) -> bool
     requires { ⌜ (used ≤ length (now s)) × (rising (take used (now s)) ≡ true) × (at ≡ rank key (take used (now s))) ⌝ }

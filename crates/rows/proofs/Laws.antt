@@ -6,13 +6,13 @@ use mathlib.Core.List.{List, [], _∷_, _++_, map}
 use Prim.Native.Nat.{ℕ, zero, suc, _+_, _≤_, _<_, zero-le}
 use native.Mathlib.Nat.{le-of-suc-le-suc, not-suc-le-zero}
 use native.Mathlib.Omega.{arith}
-use borrow.Author.Tests.{ltb-true, ltb-false, leb-true, eqb-true, eqb-false, lt-ltb, le-ltb, le-leb, eq-eqb, ne-eqb}
+use borrow.Author.Tests.{ltb-true, eqb-true, eqb-false, lt-ltb, le-ltb, le-leb, eq-eqb, ne-eqb}
 use lib.Dec.{leb, ltb, eqb}
 use lib.ListN.{length, getD, take, drop, set}
 use lib.Seq.{drop-nil, drop-drop, getD-set-other}
 use Rattle.words.proofs.Both.{both-left, both-right}
 use Rattle.rising.specs.Rising.{risingFrom, rising, rank, inserted, removed}
-use Rattle.rising.proofs.Laws.{rank-within, rank-up, rank-down}
+use Rattle.rising.proofs.Laws.{side, rising-head, rising-rest, rank-within, rank-up, rank-down}
 use Rattle.rows.specs.Rows.{rowKey, slotOf, heldBy, heldFrom, sumBy, rowRight, rowsRight, slotRank, slotRun}
 use Rattle.rows.specs.Rows.{slotCount, headOf, binOf, mostHead, mostBin}
 use Rattle.rows.specs.Laws.{HeldRanks, HeldWithin, HeldAll, HeldInsert, SumInsert, SumMore, CountWithin}
@@ -20,14 +20,6 @@ use Rattle.rows.specs.Laws.{RunOwn, HeldOut, HeldOther, SumOut, SumOther
 use Rattle.rows.specs.Laws.{RightAt, RightInsert, RightMore, RightRemove, ClosedNone, RightOpen, RightClose, RightOut}
 
 -- ---- a key and a slot
-
--- a number is below another or is not
-pub side : {C : Type 0} (x k : ℕ) → (x < k → C) → (k ≤ x → C) → C
-side {C} x k low high = go (ltb x k) refl
-  where
-    go : (t : Bool) → ltb x k ≡ t → C
-    go true e = low (ltb-true x k e)
-    go false e = high (ltb-false x k e)
 
 -- a key stands below a slot's keys, among them, or above: the way every argument by the ranks goes
 pub apart : {C : Type 0} (s x : ℕ) → (x < rowKey s 0 → C) → (rowKey s 0 ≤ x → x < rowKey (suc s) 0 → C)
@@ -41,14 +33,6 @@ same-or {C} a b same other = go (eqb a b) refl
     go : (t : Bool) → eqb a b ≡ t → C
     go true e = same (eqb-true a b e)
     go false e = other (eqb-false a b e)
-
-pub rising-head : (b x : ℕ) (xs : List ℕ) → risingFrom b (x ∷ xs) ≡ true → b ≤ x
-unfolding risingFrom
-rising-head b x xs e = leb-true b x (both-left (leb b x) (risingFrom (suc x) xs) e)
-
-pub rising-rest : (b x : ℕ) (xs : List ℕ) → risingFrom b (x ∷ xs) ≡ true → risingFrom (suc x) xs ≡ true
-unfolding risingFrom
-rising-rest b x xs e = both-right (leb b x) (risingFrom (suc x) xs) e
 
 -- a key that no element is below has the rank 0
 pub rank-none : (b k : ℕ) (xs : List ℕ) → risingFrom b xs ≡ true → k ≤ b → rank k xs ≡ 0

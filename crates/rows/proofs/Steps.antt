@@ -11,10 +11,10 @@ use lib.Dec.{eqb}
 use lib.ListN.{length, getD, take, drop, set, drop-of-length-le}
 use lib.Seq.{length-take-le, drop-cons, getD-take}
 use Rattle.rising.specs.Rising.{risingFrom, rising, rank, held, insertAt, removeAt}
-use Rattle.rising.proofs.Laws.{rank-within}
+use Rattle.rising.proofs.Laws.{side, rising-rest, rank-within}
 use Rattle.rows.specs.Rows.{rowKey, slotOf, heldBy, sumBy, rowRight, rowsRight, slotRank, slotRun}
 use Rattle.rows.specs.Rows.{rows, Kept, Countable, countedMore, countedNew, counted, slotDropped}
-use Rattle.rows.proofs.Laws.{side, same-or, rising-rest, sum-past, run-end, run-own, held-ranks}
+use Rattle.rows.proofs.Laws.{same-or, sum-past, run-end, run-own, held-ranks}
 use Rattle.rows.proofs.Changes.{counted-more, counted-new, at-within, at-row, run-used}
 
 -- ---- a slot's stretch
