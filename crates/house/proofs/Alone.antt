@@ -35,12 +35,12 @@ use Rattle.house.specs.History.{Call, Open, Deliver, Report, Close, Figu
 use Rattle.house.specs.History.{reached, names, named, Sent, AllSent}
 use Rattle.house.specs.Tally.{rowOf}
 use Rattle.house.specs.Laws.{Shaped}
-use Rattle.house.specs.Demands.{asking, needs, assured, Isolated}
+use Rattle.house.specs.Demands.{roomFor, asking, needs, assured, Isolated}
 use Rattle.house.proofs.Delivering.{granted-held, granted-below}
 use Rattle.house.proofs.Reporting.{open-within, report-short}
 use Rattle.house.proofs.Keeping.{key-low, after-keeps, after-shaped, reached-sound}
 use Rattle.house.proofs.Slots.{rowsAt, Alike, alike-same, alike-on, else-alike, own-deliver, own-close}
-use Rattle.house.proofs.Slots.{own-open, answerBy, rowed, rowsAfter, nextSlot}
+use Rattle.house.proofs.Slots.{own-open, answerBy, rowsAfter, nextSlot}
 use Rattle.house.proofs.Counting.{paired, rows-held, shut-rows, report-told, reached-shaped, holds}
 use Rattle.house.proofs.Refusing.{open-number}
 
@@ -110,7 +110,7 @@ module _ (h : House) (slot : ℕ) (shape : Shaped h) (e : sound h ≡ true) wher
 
   -- a row is there for each key that it needs
   row-there : (v : Verdict) → heldBy slot (keysOf h) + asking slot (keysOf h) v ≤ slotAt h slot .floor
-      → rowed h slot v ≡ true
+      → roomFor h slot v ≡ true
   row-there (Refused a) within = refl
   row-there (Taken next) within = refl
   row-there (Opened next rank part) within = refl

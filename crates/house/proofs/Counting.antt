@@ -43,12 +43,12 @@ use Rattle.house.specs.Tally.{Heard, nothing, counting, following, doneB
 use Rattle.house.specs.Tally.{rowOf, holding, owed, over, freeBy, promisedBy}
 use Rattle.house.specs.Laws.{Shaped}
 use Rattle.house.specs.Demands.{TallyReported, FiguresTallied, FreePromised, NeverRefused}
-use Rattle.house.specs.Demands.{TallyKeys, ShutNone, RowsTallied}
+use Rattle.house.specs.Demands.{TallyKeys, ShutNone, RowsTallied, roomFor}
 use Rattle.house.proofs.Calling.{told-within, told-rooms, figures-done}
 use Rattle.house.proofs.Delivering.{granted-below}
 use Rattle.house.proofs.Reporting.{told-rises, open-within, report-done}
 use Rattle.house.proofs.Keeping.{fresh-sound, fresh-shaped, after-keeps, after-shaped, reached-sound, told-right}
-use Rattle.house.proofs.Slots.{rowsAt, Alike, else-alike, Own, own-deliver, own-close, own-open, answerBy, rowed}
+use Rattle.house.proofs.Slots.{rowsAt, Alike, else-alike, Own, own-deliver, own-close, own-open, answerBy}
 use Rattle.house.proofs.Slots.{rowsAfter, nextSlot}
 use Rattle.house.proofs.Refusing.{refused-keeps, own-number, open-number, deliver-number, report-number}
 use Rattle.house.proofs.Refusing.{close-number}
@@ -479,7 +479,7 @@ never-refused calls slot rec sent bytes below refused = go (told .opened) refl
     verdict = verdictOn (slotAt h slot .session) rec
 
     by : (v : Verdict) → ((a : Answer) → v ≡ Refused a → ofRecord a ≡ true)
-        → heldBy slot (keysOf h) < slotAt h slot .floor → answerBy v (rowed h slot v) ≡ NoRoom → ⊥
+        → heldBy slot (keysOf h) < slotAt h slot .floor → answerBy v (roomFor h slot v) ≡ NoRoom → ⊥
     by (Refused a) own low is = false≢true (sym (ap ofRecord is) ∙ own a refl)
     by (Taken next) own low is = omega (arith, ap numberOf is)
     by (Opened next rank part) own low is = omega (arith, ap numberOf is)

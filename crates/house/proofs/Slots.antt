@@ -33,6 +33,7 @@ use Rattle.house.specs.Calls.{slotAt, openSlot, closeSlot, roomOf, withO
 use Rattle.house.specs.Calls.{deliver}
 use Rattle.house.specs.History.{Call, Open, Deliver, Report, Close, Figured, after, names, Sent}
 use Rattle.house.specs.Laws.{Shaped}
+use Rattle.house.specs.Demands.{roomFor}
 use Rattle.house.proofs.Calling.{deliver-judged}
 use Rattle.house.proofs.Keeping.{unless-by, keys-kept, key-low, key-slot, room, withSession}
 
@@ -52,13 +53,6 @@ pub alike-on : (slot : ℕ) (h g k : House) → Alike slot h g → Alike slot g 
 alike-on slot h g k a b = record { stands = a .stands ∙ b .stands; rows = a .rows ∙ b .rows }
 
 -- ---- what a record makes of its slot
-
--- whether it has its row; only a part result asks for one
-abbrev pub rowed : House → ℕ → Verdict → Bool
-rowed h slot (Refused a) = true
-rowed h slot (Taken next) = true
-rowed h slot (Opened next rank part) = true
-rowed h slot (Wanted next rank key) = granted (roomOf h slot) (keysOf h) (rowKey slot key)
 
 abbrev pub answerBy : Verdict → Bool → Answer
 answerBy (Refused a) b = a
@@ -94,9 +88,9 @@ module _ (h : House) (slot : ℕ) (shape : Shaped h) (inside : slot < slotCount)
 
 -- a delivery, told of its own slot
 pub record Own (h : House) (slot : ℕ) (v : Verdict) (o : Answered) : Type 0 where
-  pub answer : o .answer ≡ answerBy v (rowed h slot v)
-  pub stands : slotAt (o .house) slot ≡ nextSlot (slotAt h slot) v (rowed h slot v)
-  pub rows : rowsAt (o .house) slot ≡ rowsAfter (rowsAt h slot) v (rowed h slot v)
+  pub answer : o .answer ≡ answerBy v (roomFor h slot v)
+  pub stands : slotAt (o .house) slot ≡ nextSlot (slotAt h slot) v (roomFor h slot v)
+  pub rows : rowsAt (o .house) slot ≡ rowsAfter (rowsAt h slot) v (roomFor h slot v)
 
 module _ (h : House) (slot : ℕ) (shape : Shaped h) (e : sound h ≡ true) (inside : slot < slotCount)
     (t : slotAt h slot .taken ≡ true) where

@@ -4,13 +4,14 @@
 --   granted     whether a key gets a row, or needs none
 --   Core        all that such a record may change
 --   delivered   the answer and the core after a record
+--   guessed     what is noted of where a row stood, for the next search
 -- Assumes nothing.
 use mathlib.Core.Path.{_≡_}
 use mathlib.Core.Bool.{Bool, true, false, cond, _||_}
 use mathlib.Core.List.{List}
-use Prim.Native.Nat.{ℕ, _+_, _-_, _≤_, _<_}
+use Prim.Native.Nat.{ℕ, _+_, _-_, _*_, _/_, _%_, _≤_, _<_}
 use lib.Dec.{ltb}
-use lib.ListN.{length, take}
+use lib.ListN.{length, take, set}
 use Rattle.answers.specs.declared.Answer.{Answer}
 use Rattle.answers.specs.declared.Answer.the-variants as answer
 use Rattle.answers.specs.declared.Answer.the-variants.{Done}
@@ -104,12 +105,31 @@ wantsRow (Taken next) = false
 wantsRow (Opened next rank part) = false
 wantsRow (Wanted next rank key) = true
 
--- .. and its answer is told by the verdict
+-- .. and its answer is told by the verdict; asked only of one that wants no row
 abbrev pub plainAnswer : Verdict → Answer
 plainAnswer (Refused a) = a
 plainAnswer (Taken next) = Done
 plainAnswer (Opened next rank part) = Done
 plainAnswer (Wanted next rank key) = Done
+
+-- ---- where a row is looked for first
+
+-- Guesses are lent beside the rows: ranks at which rows stood. A guess is tested before it counts, so that no answer
+-- depends on one.
+
+-- the cell of a key: bins lie 1 apart, sites 36 and heads 1,024, so that the keys of one lot seldom share a cell
+abbrev pub cellOf : ℕ → ℕ
+cellOf key = (key + key * 9 / 16384) % 4096
+
+abbrev pub noted : ℕ → List ℕ → ℕ → List ℕ → List ℕ
+noted slot keys key guesses = set guesses (cellOf key) (rank (rowKey slot key) keys)
+
+-- only a part result is searched for, whether it is granted or not
+unfoldable pub guessed : Room → Core → Verdict → List ℕ → List ℕ
+guessed room c (Refused a) guesses = guesses
+guessed room c (Taken next) guesses = guesses
+guessed room c (Opened next at part) guesses = guesses
+guessed room c (Wanted next at key) guesses = noted (room .slot) (take (c .used) (c .keys)) key guesses
 
 -- ---- what is lent
 
