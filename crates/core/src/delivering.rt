@@ -8,6 +8,7 @@ use house::Room;
 use rising::holds;
 use rising::insert;
 use rising::rank_among;
+use rising::rank_guessed;
 use rising::remove;
 use rows::count_row;
 use rows::held_by;
@@ -16,10 +17,14 @@ use session::Verdict;
 use session::judge_lent;
 ghost use mathlib.Core.Path.{_≡_};
 ghost use Prim.Native.Nat.{_≤_, _<_, _+_};
-ghost use lib.ListN.{take};
+ghost use lib.ListN.{take, set};
+ghost use Rattle.rising.specs.Rising.{rank};
 ghost use Rattle.rows.specs.Rows.{rowKey};
+ghost use Rattle.session.specs.Judge.{judge};
+ghost use Rattle.house.specs.House.{LentKeys};
 ghost use Rattle.house.specs.Deliver.{Grantable, LentRows, LentCore};
 ghost use Rattle.house.specs.Deliver.{granted, rowed, rowTaken, outcome, core, resultedIf, delivered};
+ghost use Rattle.house.specs.Deliver.{cellOf, noted, guessed};
 
 fn row_key(slot: usize, key: u32) -> u64
     requires { ⌜ slot < 16 ⌝ }
@@ -45,13 +50,49 @@ fn is_granted(keys: &[u64], used: usize, room: Room, at: usize, key: u64) -> boo
     others < 1024 - used
 }
 
-// Counts a part under its key, if it is granted.
-fn take_row(keys: &mut [u64], counts: &mut [u64], used: usize, room: Room, key: u64) -> Granting
-    requires { ⌜ LentRows room (now keys) (now counts) used ⌝ }
-    ensures { λ r. ⌜ rowed (now (keys .exit)) (now (counts .exit)) r
-        ≡ rowTaken room (now (keys .entry)) (now (counts .entry)) used key ⌝ }
+// Where the guess for a key stands among 4,096 of them.
+fn cell_of(key: u32) -> usize
+    ensures { λ r. ⌜ r ≡ cellOf key ⌝ }
 {
-    let at = rank_among(keys, used, 1024, key);
+    let wide = key as u64;
+    ((wide + wide * 9 / 16384) % 4096) as usize
+}
+
+// A guess as a rank, whatever it is.
+fn rank_in(guess: u16) -> usize {
+    guess as usize
+}
+
+// The rank of a key, looked for first where its guess says. Fewer guesses, or none, will do: then there is a search.
+fn find_row(keys: &[u64], used: usize, guesses: &mut [u16], cell: usize, key: u64) -> usize
+    requires { ⌜ LentKeys (now keys) used ⌝ }
+    ensures { λ r. ⌜ (r ≡ rank key (take used (now (keys .entry))))
+        × (now (guesses .exit) ≡ set (now (guesses .entry)) cell r) ⌝ }
+{
+    if guesses.len() <= cell {
+        return rank_among(keys, used, 1024, key);
+    }
+    let at = rank_guessed(keys, used, 1024, rank_in(guesses[cell]), key);
+    guesses[cell] = at as u16;
+    at
+}
+
+// Counts a part under its key, if it is granted.
+fn take_row(
+    keys: &mut [u64],
+    counts: &mut [u64],
+    used: usize,
+    guesses: &mut [u16],
+    room: Room,
+    cell: usize,
+    key: u64,
+) -> Granting
+    requires { ⌜ LentRows room (now keys) (now counts) used ⌝ }
+    ensures { λ r. ⌜ (rowed (now (keys .exit)) (now (counts .exit)) r
+        ≡ rowTaken room (now (keys .entry)) (now (counts .entry)) used key)
+        × (now (guesses .exit) ≡ set (now (guesses .entry)) cell (rank key (take used (now (keys .entry))))) ⌝ }
+{
+    let at = find_row(keys, used, guesses, cell, key);
     if is_granted(keys, used, room, at, key) {
         Granting::Rows(count_row(keys, counts, used, at, key))
     } else {
@@ -64,6 +105,7 @@ fn result_lent(
     keys: &mut [u64],
     counts: &mut [u64],
     used: usize,
+    guesses: &mut [u16],
     room: Room,
     st: Standing,
     parts: &mut [u64],
@@ -72,13 +114,22 @@ fn result_lent(
     key: u32,
 ) -> Delivered
     requires { ⌜ LentCore room (now keys) (now counts) used st (now parts) × (rank + 1 ≤ st .opened) ⌝ }
-    ensures { λ r. ⌜ outcome (r .answer) (now (keys .exit)) (now (counts .exit)) (r .used) (r .standing)
+    ensures { λ r. ⌜ (outcome (r .answer) (now (keys .exit)) (now (counts .exit)) (r .used) (r .standing)
         (now (parts .exit))
-        ≡ resultedIf room (now (keys .entry)) (now (counts .entry)) used st (now (parts .entry)) next rank key ⌝ }
+        ≡ resultedIf room (now (keys .entry)) (now (counts .entry)) used st (now (parts .entry)) next rank key)
+        × (now (guesses .exit) ≡ noted (room .slot) (take used (now (keys .entry))) key (now (guesses .entry))) ⌝ }
 {
     let slot = room.slot;
     let opened = st.opened;
-    match take_row(keys, counts, used, room, row_key(slot, key)) {
+    match take_row(
+        keys,
+        counts,
+        used,
+        guesses,
+        room,
+        cell_of(key),
+        row_key(slot, key),
+    ) {
         Granting::Rows(n) => {
             remove(parts, opened, rank, 1);
             Delivered {
@@ -95,21 +146,25 @@ fn result_lent(
     }
 }
 
-// What a record does to the rows and the session of one slot.
+// What a record does to the rows and the session of one slot. Guesses may be any numbers, and any number of them.
 pub fn deliver_lent(
     keys: &mut [u64],
     counts: &mut [u64],
     used: usize,
+    guesses: &mut [u16],
     room: Room,
     st: Standing,
     parts: &mut [u64],
     rec: &[u8],
 ) -> Delivered
     requires { ⌜ LentCore room (now keys) (now counts) used st (now parts) ⌝ }
-    ensures { λ r. ⌜ outcome (r .answer) (now (keys .exit)) (now (counts .exit)) (r .used) (r .standing)
+    ensures { λ r. ⌜ (outcome (r .answer) (now (keys .exit)) (now (counts .exit)) (r .used) (r .standing)
         (now (parts .exit))
         ≡ delivered room (core (now (keys .entry)) (now (counts .entry)) used st (now (parts .entry)))
-        (now (rec .entry)) ⌝ }
+        (now (rec .entry)))
+        × (now (guesses .exit)
+        ≡ guessed room (core (now (keys .entry)) (now (counts .entry)) used st (now (parts .entry)))
+        (judge st (take (st .opened) (now (parts .entry))) (now (rec .entry))) (now (guesses .entry))) ⌝ }
 {
     let opened = st.opened;
     match judge_lent(st, parts, rec) {
@@ -135,6 +190,7 @@ pub fn deliver_lent(
             keys,
             counts,
             used,
+            guesses,
             room,
             st,
             parts,

@@ -7,7 +7,7 @@ use Prim.Native.Nat.{ℕ, zero, suc, _+_, _-_, _≤_, _<_}
 use native.Mathlib.Omega.{arith}
 use borrow.Author.Tests.{lt-ltb, le-ltb, ltb-true}
 use lib.Dec.{ltb}
-use lib.ListN.{length, getD, take}
+use lib.ListN.{length, getD, take, set}
 use lib.Seq.{getD-take, length-take-le}
 use Rattle.words.proofs.Both.{both-left, both-right}
 use Rattle.answers.specs.declared.Answer.{Answer}
@@ -26,7 +26,7 @@ use Rattle.house.specs.declared.Granting.{Granting}
 use Rattle.house.specs.declared.Granting.the-variants as granting
 use Rattle.house.specs.House.{rowCount, Lent}
 use Rattle.house.specs.Deliver.{granted, rowed, rowTaken, core, outcome, resulted, resultedIf, settled, delivered}
-use Rattle.house.specs.Deliver.{wantsRow, plainAnswer, pastCounts, LentRows, LentCore}
+use Rattle.house.specs.Deliver.{Core, wantsRow, plainAnswer, cellOf, noted, guessed, pastCounts, LentRows}
 use Rattle.house.proofs.Laws.{lent-kept}
 
 -- ---- the grant rules
@@ -160,3 +160,24 @@ settled-plain room keys counts used s (Refused a) e = refl
 settled-plain room keys counts used s (Taken next) e = refl
 settled-plain room keys counts used s (Opened next rank part) e = refl
 settled-plain room keys counts used s (Wanted next rank key) e = absurd (true≢false e)
+
+-- ---- what is noted for the next search
+
+-- nothing, by a verdict that asks for no row
+pub unguessed : (room : Room) (c : Core) (v : Verdict) (guesses : List ℕ) → wantsRow v ≡ false
+    → guesses ≡ guessed room c v guesses
+unfolding guessed
+unguessed room c (Refused a) guesses e = refl
+unguessed room c (Taken next) guesses e = refl
+unguessed room c (Opened next rank part) guesses e = refl
+unguessed room c (Wanted next rank key) guesses e = absurd (true≢false e)
+
+-- a part result's rank, in its key's cell
+pub result-noted : (slot : ℕ) (keys : List ℕ) (key : ℕ) (guesses : List ℕ) {cell k : ℕ} → cell ≡ cellOf key
+    → k ≡ rowKey slot key → set guesses cell (rank k keys) ≡ noted slot keys key guesses
+result-noted slot keys key guesses at keyed = rw (at, keyed)
+
+pub guessed-wanted : (room : Room) (c : Core) {v : Verdict} (guesses : List ℕ) {next : Standing} {at key : ℕ}
+    → v ≡ Wanted next at key → noted (room .slot) (take (c .used) (c .keys)) key guesses ≡ guessed room c v guesses
+unfolding guessed
+guessed-wanted room c guesses e = rw e

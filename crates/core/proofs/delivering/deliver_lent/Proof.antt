@@ -1,51 +1,78 @@
 -- `core::delivering::deliver_lent` meets its contract: each return is one case of its definition.
 -- Assumes nothing.
-use mathlib.Core.Path.{sym, _∙_}
+use mathlib.Core.Path.{_≡_, refl, ap, sym, _∙_}
+use mathlib.Core.Bool.{false}
 use native.Mathlib.Omega.{arith}
+use lib.ListN.{take}
+use denote.Ref.{now}
 use borrow.Author.Needs.{needs}
+use Rattle.session.specs.declared.Verdict.{Verdict}
+use Rattle.session.specs.Judge.{judge}
+use Rattle.house.specs.Deliver.{core, wantsRow, guessed}
 use Rattle.house.proofs.Delivering.{delivered-refused, delivered-taken, delivered-opened, delivered-wanted}
+use Rattle.house.proofs.Delivering.{unguessed, guessed-wanted}
 use Rattle.session.proofs.Laws.{within-opened, within-wanted}
 use Rattle.session.proofs.Judgement.{judged-within}
 use Rattle.core.proofs.delivering.deliver_lent.Statement.{statement}
 use Rattle.core.proofs.delivering.deliver_lent.Tie as tie
 
+-- ---- where a fact stands
+
+abbrev start : tie.After-judge-lent → tie.Start
+start c = c .before .before .before .before .before .before .before
+
+-- a verdict that asks for no row notes nothing
+abbrev plain : {v : Verdict} → wantsRow v ≡ false → (c : tie.After-judge-lent) → c .judge-lent .result ≡ v
+    → (let a = start c .args in
+    now (a .guesses)
+    ≡ guessed (a .room) (core (now (a .keys)) (now (a .counts)) (a .used) (a .st) (now (a .parts)))
+    (judge (a .st) (take (a .st .opened) (now (a .parts))) (now (a .rec))) (now (a .guesses)))
+plain none c is = unguessed _ _ _ _ (ap wantsRow (sym (c .judge-lent .ensures) ∙ is) ∙ none)
+
 insert-requires : tie.Need-insert-requires
 insert-requires c κs =
-    let start = c .before .before .before .before .before .before .before .before .before .before in
-    let k = start .pre .kept in
-    let v = sym (c .before .before .before .before .judge-lent .ensures) ∙ c .before .before .next2 .given .1 in
-    let w = within-opened _ (judged-within _ _ _ k) v in
-    (w .0, omega (arith, w .1, start .pre .cells))
+    let opened = c .before .before in
+    let judged = opened .before .before in
+    let given = start judged .pre in
+    let v = sym (judged .judge-lent .ensures) ∙ opened .next2 .given .1 in
+    let w = within-opened _ (judged-within _ _ _ (given .kept)) v in
+    (w .0, omega (arith, w .1, given .cells))
 
 result-lent-requires : tie.Need-result-lent-requires
 result-lent-requires c κs =
-    let start = c .before .before .before .before .before .before .before .before .before .before .before .before in
-    let k = start .pre .kept in
-    let wanted = c .before .before .before .before in
-    let v = sym (wanted .before .before .judge-lent .ensures) ∙ wanted .next3 .given .1 in
-    (start .pre, within-wanted _ (judged-within _ _ _ k) v)
+    let wanted = c .before .before .before .before .before in
+    let judged = wanted .before .before in
+    let given = start judged .pre in
+    let v = sym (judged .judge-lent .ensures) ∙ wanted .next3 .given .1 in
+    (given, within-wanted _ (judged-within _ _ _ (given .kept)) v)
 
 returns : tie.Need-returns
 returns c =
-    delivered-refused _ _ _ _ _ _ _ _
-    (sym (c .before .before .before .judge-lent .ensures) ∙ c .before .answer .given .1)
+    let judged = c .before .before .before in
+    let is = c .before .answer .given .1 in
+    (delivered-refused _ _ _ _ _ _ _ _ (sym (judged .judge-lent .ensures) ∙ is), plain refl judged is)
 
 returns-2 : tie.Need-returns-2
 returns-2 c =
-    delivered-taken _ _ _ _ _ _ _ _ (sym (c .before .before .before .judge-lent .ensures) ∙ c .before .next .given .1)
+    let judged = c .before .before .before in
+    let is = c .before .next .given .1 in
+    (delivered-taken _ _ _ _ _ _ _ _ (sym (judged .judge-lent .ensures) ∙ is), plain refl judged is)
 
 returns-3 : tie.Need-returns-3
 returns-3 c =
     let opened = c .before .before .before .before .before in
-    delivered-opened _ _ _ _ _ _ _ _ _ _ (sym (opened .before .before .judge-lent .ensures) ∙ opened .next2 .given .1) _
-    (c .before .before .insert .ensures)
+    let judged = opened .before .before in
+    let is = opened .next2 .given .1 in
+    (delivered-opened _ _ _ _ _ _ _ _ _ _ (sym (judged .judge-lent .ensures) ∙ is) _ (c .before .before .insert .ensures),
+    plain refl judged is)
 
 returns-4 : tie.Need-returns-4
 returns-4 c =
-    let done = c .before .before .before .before .before .before in
-    let wanted = done .before .before .before .before .before in
-    done .result-lent .ensures
-    ∙ delivered-wanted _ _ _ _ _ _ _ _ _ _ (sym (wanted .before .before .judge-lent .ensures) ∙ wanted .next3 .given .1)
+    let done = c .before .before .before .before .before .before .before .before in
+    let wanted = done .before .before .before .before .before .before in
+    let v = sym (wanted .before .before .judge-lent .ensures) ∙ wanted .next3 .given .1 in
+    (done .result-lent .ensures .0 ∙ delivered-wanted _ _ _ _ _ _ _ _ _ _ v,
+    done .result-lent .ensures .1 ∙ guessed-wanted _ _ _ v)
 
 -- ---- found by search
 
@@ -82,6 +109,9 @@ same-length-5 c = search needs
 same-length-6 : tie.Need-same-length-6
 same-length-6 c = search needs
 
+same-length-7 : tie.Need-same-length-7
+same-length-7 c = search needs
+
 pub deliver-lent-spec : {M : Type 1} → statement M
 deliver-lent-spec =
     tie.close
@@ -102,4 +132,5 @@ deliver-lent-spec =
     same-length-4
     same-length-5
     same-length-6
+    same-length-7
     returns-4)
