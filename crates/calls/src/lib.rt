@@ -197,7 +197,7 @@ fn deliver_to(house: House, i: usize, s: Slot, rec: &[u8]) -> Answered
     answer_with(plain_answer(verdict), h)
 }
 
-// .. where rows are asked for: the rows and the parts are lent, and laid back.
+// .. where rows are asked for: the rows and the parts are lent, and laid back. One call has nothing to guess by.
 fn deliver_rows(house: House, i: usize, s: Slot, rec: &[u8]) -> Answered
     requires { ⌜ (sound house ≡ true) × (i < 16) × (s ≡ slotAt house i) × (s .taken ≡ true) ⌝ }
     ensures { λ r. ⌜ r ≡ withOutcome house i (deliveredTo house i (now (rec .entry))) ⌝ }
@@ -209,7 +209,17 @@ fn deliver_rows(house: House, i: usize, s: Slot, rec: &[u8]) -> Answered
     let mut keys = h.keys;
     let mut counts = h.counts;
     let st = session.standing;
-    let d = deliver_lent(&mut keys, &mut counts, h.used, room, st, &mut parts, rec);
+    let mut guesses: [u16; 1] = [0; 1];
+    let d = deliver_lent(
+        &mut keys,
+        &mut counts,
+        h.used,
+        &mut guesses,
+        room,
+        st,
+        &mut parts,
+        rec,
+    );
     let answer = d.answer;
     let standing = d.standing;
     h.keys = keys;

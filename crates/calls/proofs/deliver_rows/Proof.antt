@@ -20,20 +20,21 @@ long c = search needs
 
 deliver-lent-requires : tie.Need-deliver-lent-requires
 deliver-lent-requires c κs =
-    let start = c .before .before .before .before .before .before .before .before .before .before in
-    let room = c .before .before .before .before .before .before .before .before .room-of .ensures in
+    let roomy = c .before .before .before .before .before .before .before .before .before in
+    let start = roomy .before .before in
+    let room = roomy .room-of .ensures in
     lent-to (start .args .house) (start .args .i) (start .pre .2) (room .0) (start .pre .0) (long start) (paired start)
     (room .1) (start .pre .1) (start .pre .3) (cells start)
 
 returns : tie.Need-returns
 returns c =
-    let did = c .before .before .before .before .before in
-    let roomy = did .before .before .before .before .before .before .before .before .before in
+    let did = c .before .before .before .before .before .before in
+    let roomy = did .before .before .before .before .before .before .before .before .before .before in
     let start = roomy .before .before in
     let room = roomy .room-of .ensures in
     c .answer-with .ensures
     ∙ laid-back (start .args .house) (start .args .i) (start .pre .2) (room .0) (now (start .args .rec)) _
-    (did .deliver-lent .ensures)
+    (did .deliver-lent .ensures .0)
 
 -- ---- found by search
 
@@ -49,8 +50,11 @@ slice-aggregate-deliver-lent-2 c = search needs
 slice-aggregate-deliver-lent-3 : tie.Need-slice-aggregate-deliver-lent-3
 slice-aggregate-deliver-lent-3 c = search needs
 
-mul-t22 : tie.Need-mul-t22
-mul-t22 c = search needs
+slice-aggregate-deliver-lent-4 : tie.Need-slice-aggregate-deliver-lent-4
+slice-aggregate-deliver-lent-4 c = search needs
+
+mul-t23 : tie.Need-mul-t23
+mul-t23 c = search needs
 
 element-set-from-h : tie.Need-element-set-from-h
 element-set-from-h c = search needs
@@ -66,8 +70,9 @@ deliver-rows-spec =
     slice-aggregate-deliver-lent
     slice-aggregate-deliver-lent-2
     slice-aggregate-deliver-lent-3
+    slice-aggregate-deliver-lent-4
     deliver-lent-requires
-    mul-t22
+    mul-t23
     element-set-from-h
     answer-with-requires
     returns)
