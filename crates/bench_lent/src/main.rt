@@ -85,6 +85,7 @@ fn end_of(stream: &[u8], at: usize) -> usize
 fn follow(
     keys: &mut [u64],
     counts: &mut [u64],
+    guesses: &mut [u16],
     parts: &mut [u64],
     from: Ran,
     room: Room,
@@ -105,7 +106,16 @@ fn follow(
     let mut turn: u64 = 0;
     while turn < turns {
         let end = end_of(stream, at);
-        let d = deliver_lent(keys, counts, used, room, standing, parts, &stream[at..end]);
+        let d = deliver_lent(
+            keys,
+            counts,
+            used,
+            guesses,
+            room,
+            standing,
+            parts,
+            &stream[at..end],
+        );
         let answer = d.answer;
         if answers::number(answer) == 0 {
             accepted += 1;
@@ -129,6 +139,7 @@ fn follow(
 fn run() -> Ran {
     let mut keys = [0u64; 1024];
     let mut counts = [0u64; 1024];
+    let mut guesses = [0u16; 4096];
     let mut parts = [0u64; 32];
     let room = Room {
         slot: 0,
@@ -151,6 +162,7 @@ fn run() -> Ran {
     let r = follow(
         &mut keys,
         &mut counts,
+        &mut guesses,
         &mut parts,
         from,
         room,
@@ -162,6 +174,7 @@ fn run() -> Ran {
     follow(
         &mut keys,
         &mut counts,
+        &mut guesses,
         &mut parts,
         r,
         room,

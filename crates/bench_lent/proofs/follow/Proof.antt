@@ -1,6 +1,6 @@
 -- `bench_lent::follow` meets its contract: a delivery keeps what the next one asks for.
 -- Assumes nothing.
-use mathlib.Core.Path.{_≡_, sym, subst, _∙_}
+use mathlib.Core.Path.{_≡_, refl, sym, subst, _∙_}
 use mathlib.Core.Logic.{⊎-elim}
 use Prim.Native.Nat.{_+_, _-_, _≤_, _<_}
 use native.Mathlib.Omega.{arith}
@@ -16,21 +16,32 @@ use Rattle.bench_lent.proofs.follow.Statement.{statement}
 use Rattle.bench_lent.proofs.follow.Tie as tie
 
 abbrev Inv-loop : tie.InvT-loop
-Inv-loop keys₀ counts₀ parts₀ room stream turns before used₀ standing₀ accepted₀ at₀ turn₀ keys counts parts used standing
-    accepted at turn =
+Inv-loop keys₀ counts₀ guesses₀ parts₀ room stream turns before used₀ standing₀ accepted₀ at₀ turn₀ keys counts guesses parts
+    used standing accepted at turn =
     Lending room (core keys counts used standing parts) (1 + (before + turn)) × (accepted ≤ before + turn)
-    × (at < length stream) × (turn ≤ turns)
+    × (at < length stream) × (turn ≤ turns) × (length guesses ≡ length guesses₀)
 
 abbrev μ-loop : tie.MeasureT-loop
-μ-loop keys₀ counts₀ parts₀ room stream turns before used₀ standing₀ accepted₀ at₀ turn₀ keys counts parts used standing
-    accepted at turn =
+μ-loop keys₀ counts₀ guesses₀ parts₀ room stream turns before used₀ standing₀ accepted₀ at₀ turn₀ keys counts guesses parts
+    used standing accepted at turn =
     turns - turn
+
+-- ---- where a fact stands
+
+abbrev start : tie.At-loop Inv-loop μ-loop → tie.Start Inv-loop μ-loop
+start c = c .before .before .before .before .before .before .before
+
+abbrev turn : tie.After-deliver-lent Inv-loop μ-loop → tie.At-loop Inv-loop μ-loop
+turn c = c .before .before .before .before .before .before .before .before
+
+abbrev did : tie.After-number Inv-loop μ-loop → tie.After-deliver-lent Inv-loop μ-loop
+did c = c .before .before .before .before .before .before .before .before .before
 
 loop-holds : tie.Need-loop-holds Inv-loop μ-loop
 loop-holds c =
-    let start = c .before .before .before .before .before in
-    let none : 1 + (start .args .before + 0) ≡ 1 + start .args .before = omega arith in
-    (rw none (start .pre .0), omega arith, omega arith, omega arith)
+    let s = c .before .before .before .before .before .before in
+    let none : 1 + (s .args .before + 0) ≡ 1 + s .args .before = omega arith in
+    (rw none (s .pre .0), omega arith, omega arith, omega arith, refl)
 
 end-of-requires : tie.Need-end-of-requires Inv-loop μ-loop
 end-of-requires c κs = search needs
@@ -46,62 +57,66 @@ part-deliver-lent-end c = search needs
 
 deliver-lent-requires : tie.Need-deliver-lent-requires Inv-loop μ-loop
 deliver-lent-requires c κs =
-    let turn = c .before .before .before .before .before .before in
-    lending-core _ _ _ (turn .loop .inv .0)
+    let t = c .before .before .before .before .before .before .before in
+    lending-core _ _ _ (t .loop .inv .0)
 
 number-requires : tie.Need-number-requires Inv-loop μ-loop
 number-requires c κs = search needs
 
 add-accepted : tie.Need-add-accepted Inv-loop μ-loop
-add-accepted c = search needs
+add-accepted c =
+    let t = turn (did (c .before)) in
+    omega (arith, t .loop .inv .1, t .loop .inv .3, start t .pre .1 .0)
 
 add-turn : tie.Need-add-turn Inv-loop μ-loop
-add-turn c = search needs
+add-turn c =
+    let t = turn (did (c .before .before .before)) in
+    omega (arith, t .loop .inv .3, start t .pre .1 .0)
 
 loop-less : tie.Need-loop-less Inv-loop μ-loop
 loop-less c = search needs
 
 loop-again : tie.Need-loop-again Inv-loop μ-loop
 loop-again c =
-    let did = c .before .before .before .before .before .before .before .before .before .before in
-    let ended = did .before .before .before .before .before in
-    let turn = ended .before .before in
-    let start = turn .before .before .before .before .before .before in
-    let room = start .args .room in
-    let stream = start .args .stream .now in
-    let at = turn .loop .at in
-    let most = 1 + (start .args .before + turn .loop .turn) in
-    let more : most + 1 ≡ 1 + (start .args .before + (turn .loop .turn + 1)) = omega arith in
-    let bytes : Bytes stream = λ k. omega (arith, turn .before .before .shared-slice-known .given k) in
+    let done = did (c .before .before .before) in
+    let ended = done .before .before .before .before .before .before in
+    let t = turn done in
+    let s = start t in
+    let room = s .args .room in
+    let stream = s .args .stream .now in
+    let at = t .loop .at in
+    let most = 1 + (s .args .before + t .loop .turn) in
+    let more : most + 1 ≡ 1 + (s .args .before + (t .loop .turn + 1)) = omega arith in
+    let bytes : Bytes stream = λ k. omega (arith, t .before .before .shared-slice-known .given k) in
     let range = part-bytes stream at (ended .end-of .result - at) bytes in
-    let kept = lending-kept room _ most _ range (omega arith) (omega arith) (turn .loop .inv .0) in (
-      rw (← more) (subst (λ (o : Outcome). Lending room (o .core) (most + 1)) (sym (did .deliver-lent .ensures)) kept),
+    let kept = lending-kept room _ most _ range (omega arith) (omega arith) (t .loop .inv .0) in (
+      rw (← more) (subst (λ (o : Outcome). Lending room (o .core) (most + 1)) (sym (done .deliver-lent .ensures .0)) kept),
       ⊎-elim (λ w. omega (arith, w .1)) (λ w. omega (arith, w .1)) (c .before .before .if1 .came),
       ⊎-elim (λ w. omega (arith, w .1)) (λ w. omega (arith, w .1)) (c .if2 .came),
       omega arith,
+      done .deliver-lent .kept .1 .1 .1 .0 ∙ t .loop .inv .4,
     )
 
 same-length : tie.Need-same-length Inv-loop μ-loop
 same-length c =
-    let start = c .before .before .before .before .before .before .before in
-    c .before .loop .inv .0 .rows .lent .long ∙ sym (start .pre .0 .rows .lent .long)
+    c .before .loop .inv .0 .rows .lent .long ∙ sym (start (c .before) .pre .0 .rows .lent .long)
 
 same-length-2 : tie.Need-same-length-2 Inv-loop μ-loop
 same-length-2 c =
-    let start = c .before .before .before .before .before .before .before in
-    c .before .loop .inv .0 .rows .lent .paired ∙ sym (start .pre .0 .rows .lent .paired)
+    c .before .loop .inv .0 .rows .lent .paired ∙ sym (start (c .before) .pre .0 .rows .lent .paired)
 
 same-length-3 : tie.Need-same-length-3 Inv-loop μ-loop
-same-length-3 c =
-    let start = c .before .before .before .before .before .before .before in
-    c .before .loop .inv .0 .cells ∙ sym (start .pre .0 .cells)
+same-length-3 c = c .before .loop .inv .4
+
+same-length-4 : tie.Need-same-length-4 Inv-loop μ-loop
+same-length-4 c =
+    c .before .loop .inv .0 .cells ∙ sym (start (c .before) .pre .0 .cells)
 
 returns : tie.Need-returns Inv-loop μ-loop
 returns c =
-    let turn = c .before in
-    let start = turn .before .before .before .before .before .before in
-    let all : turn .loop .turn ≡ start .args .turns = omega arith in
-    (rw (← all) (turn .loop .inv .0), omega arith)
+    let t = c .before in
+    let all : t .loop .turn ≡ start t .args .turns = omega arith in
+    (rw (← all) (t .loop .inv .0), omega arith)
 
 pub follow-spec : {M : Type 1} → statement M
 follow-spec =
@@ -123,4 +138,5 @@ follow-spec =
     same-length
     same-length-2
     same-length-3
+    same-length-4
     returns)

@@ -62,17 +62,19 @@ returns-3 : tie.Need-returns-3
 returns-3 c =
     let opened = c .before .before .before .before .before in
     let judged = opened .before .before in
-    let is = opened .next2 .given .1 in
-    (delivered-opened _ _ _ _ _ _ _ _ _ _ (sym (judged .judge-lent .ensures) ∙ is) _ (c .before .before .insert .ensures),
-    plain refl judged is)
+    let is = opened .next2 .given .1 in (
+      delivered-opened _ _ _ _ _ _ _ _ _ _ (sym (judged .judge-lent .ensures) ∙ is) _ (c .before .before .insert .ensures),
+      plain refl judged is,
+    )
 
 returns-4 : tie.Need-returns-4
 returns-4 c =
     let done = c .before .before .before .before .before .before .before .before in
     let wanted = done .before .before .before .before .before .before in
-    let v = sym (wanted .before .before .judge-lent .ensures) ∙ wanted .next3 .given .1 in
-    (done .result-lent .ensures .0 ∙ delivered-wanted _ _ _ _ _ _ _ _ _ _ v,
-    done .result-lent .ensures .1 ∙ guessed-wanted _ _ _ v)
+    let v = sym (wanted .before .before .judge-lent .ensures) ∙ wanted .next3 .given .1 in (
+      done .result-lent .ensures .0 ∙ delivered-wanted _ _ _ _ _ _ _ _ _ _ v,
+      done .result-lent .ensures .1 ∙ guessed-wanted _ _ _ v,
+    )
 
 -- ---- found by search
 

@@ -29,15 +29,19 @@ note c =
 returns : tie.Need-returns
 returns c =
     let told = c .before .before .before .before .before in
-    let t = taken (told .before .before) in
-    (resulted-rows _ _ _ _ _ _ _ _ _ _ (t .before .row-key .ensures) _ _ _ (t .take-row .ensures .0) _ _
-    (told .n .given .1) (c .before .before .remove .ensures), note t)
+    let t = taken (told .before .before) in (
+      resulted-rows _ _ _ _ _ _ _ _ _ _ (t .before .row-key .ensures) _ _ _ (t .take-row .ensures .0) _ _
+          (told .n .given .1) (c .before .before .remove .ensures),
+      note t,
+    )
 
 returns-2 : tie.Need-returns-2
 returns-2 c =
-    let t = taken (c .before .before) in
-    (resulted-none _ _ _ _ _ _ _ _ _ _ (t .before .row-key .ensures) _ _ _ (t .take-row .ensures .0)
-    (c .enum-told .given .1), note t)
+    let t = taken (c .before .before) in (
+      resulted-none _ _ _ _ _ _ _ _ _ _ (t .before .row-key .ensures) _ _ _ (t .take-row .ensures .0)
+          (c .enum-told .given .1),
+      note t,
+    )
 
 -- ---- found by search
 
