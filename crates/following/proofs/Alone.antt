@@ -89,10 +89,11 @@ first-sound =
         closed-at : (n i : ℕ) → i < n → length (getD (replicate n closedSlot) i noSlot .session .parts) ≡ mostOpen
         closed-at n i h = rw (getD-replicate n i closedSlot noSlot h)
 
-pub begins : Begun (record {
+pub begins : {guesses : List ℕ} → Begun (record {
   keys = none;
   counts = none;
   used = 0;
+  guesses = guesses;
   standing = session.begun .standing;
   parts = session.begun .parts;
   accepted = 0;

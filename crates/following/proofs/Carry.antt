@@ -146,8 +146,8 @@ module _ (s : Stream) (buf : List ℕ) (got : ℕ) (right : Right s buf) (goes :
           ∙ ap (λ (p : Progress). followed p (take got (drop (s .held) buf)))
           (sym (right .waits ∙ rw goes)))
 
-      module _ (held : ℕ) (new : List ℕ) (count : held ≡ end - w .at) (long : length new ≡ length buf)
-          (moved : take held new ≡ take held (drop (w .at) buf)) where
+      module _ (guesses : List ℕ) (held : ℕ) (new : List ℕ) (count : held ≡ end - w .at)
+          (long : length new ≡ length buf) (moved : take held new ≡ take held (drop (w .at) buf)) where
         front : take held new ≡ rest w bytes
         front =
             moved
@@ -161,6 +161,7 @@ module _ (s : Stream) (buf : List ℕ) (got : ℕ) (right : Right s buf) (goes :
               keys = ks;
               counts = cs;
               used = w .used;
+              guesses = guesses;
               standing = stageStanding w;
               parts = ps;
               accepted = w .accepted;
@@ -200,6 +201,7 @@ module _ (s : Stream) (buf : List ℕ) (got : ℕ) (right : Right s buf) (goes :
               keys = ks;
               counts = cs;
               used = w .used;
+              guesses = guesses;
               standing = st;
               parts = ps;
               accepted = w .accepted;

@@ -24,6 +24,7 @@ pub fn begin() -> Stream
         keys: [0; 1024],
         counts: [0; 1024],
         used: 0,
+        guesses: [0; 4096],
         standing,
         parts,
         accepted: 0,
@@ -73,11 +74,13 @@ fn follow_on(s: Stream, buf: &mut [u8], got: usize) -> Stream
 {
     let mut keys = s.keys;
     let mut counts = s.counts;
+    let mut guesses = s.guesses;
     let mut parts = s.parts;
     let end = s.held + got;
     let w = walk(
         &mut keys,
         &mut counts,
+        &mut guesses,
         &mut parts,
         stage_of(s),
         &buf[0..end],
@@ -89,6 +92,7 @@ fn follow_on(s: Stream, buf: &mut [u8], got: usize) -> Stream
         keys,
         counts,
         used: w.used,
+        guesses,
         standing,
         parts,
         accepted: w.accepted,

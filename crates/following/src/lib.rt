@@ -22,11 +22,13 @@ pub enum Fate {
 }
 
 // A stream as far as it was followed: slot 0's rows and session, the number of records accepted, and how many bytes
-// of an unfinished record are held. They stand at the front of the lent buffer.
+// of an unfinished record are held. They stand at the front of the lent buffer. No text depends on the guesses, by which
+// rows are looked for.
 pub struct Stream {
     pub keys: [u64; 1024],
     pub counts: [u64; 1024],
     pub used: usize,
+    pub guesses: [u16; 4096],
     pub standing: Standing,
     pub parts: [u64; 32],
     pub accepted: u64,
@@ -34,7 +36,7 @@ pub struct Stream {
     pub held: usize,
 }
 
-// Where the walk over the records of a chunk stands, but for rows and parts, which are lent: `at` is where the next
+// Where the walk over the records of a chunk stands, but for rows, guesses and parts, which are lent: `at` is where the next
 // record begins, and `more` whether it is to be looked at. The session's standing is held field by field: copied whole,
 // with the unused bytes between its fields, it costs more than all else that is done for a record.
 struct Stage {

@@ -1,4 +1,4 @@
-// The records of a chunk, one after another, over lent rows and parts: nothing is copied and nothing is tested twice.
+// The records of a chunk, one after another, over lent rows, guesses and parts: nothing is copied and nothing is tested twice.
 use crate::Fate;
 use crate::Stage;
 use crate::cutting::needed;
@@ -42,6 +42,7 @@ pub(crate) fn standing_of(s: Stage) -> Standing
 fn take_record(
     keys: &mut [u64],
     counts: &mut [u64],
+    guesses: &mut [u16],
     parts: &mut [u64],
     s: Stage,
     bytes: &[u8],
@@ -59,6 +60,7 @@ fn take_record(
         keys,
         counts,
         s.used,
+        guesses,
         room(),
         standing_of(s),
         parts,
@@ -131,7 +133,14 @@ fn is_body(place: Place) -> bool
 }
 
 // The record at `at`, if it is there whole.
-fn step(keys: &mut [u64], counts: &mut [u64], parts: &mut [u64], s: Stage, bytes: &[u8]) -> Stage
+fn step(
+    keys: &mut [u64],
+    counts: &mut [u64],
+    guesses: &mut [u16],
+    parts: &mut [u64],
+    s: Stage,
+    bytes: &[u8],
+) -> Stage
     requires { ⌜ Walkable (now keys) (now counts) (now parts) s (now bytes) × (s .more ≡ true) ⌝ }
     ensures { λ r. ⌜ Stepped (now (keys .entry)) (now (counts .entry)) (now (parts .entry)) s (now (keys .exit))
         (now (counts .exit)) (now (parts .exit)) r (now (bytes .entry)) ⌝ }
@@ -183,13 +192,14 @@ fn step(keys: &mut [u64], counts: &mut [u64], parts: &mut [u64], s: Stage, bytes
             more: true,
         };
     }
-    take_record(keys, counts, parts, s, bytes, n)
+    take_record(keys, counts, guesses, parts, s, bytes, n)
 }
 
 // All records that are there whole.
 pub(crate) fn walk(
     keys: &mut [u64],
     counts: &mut [u64],
+    guesses: &mut [u16],
     parts: &mut [u64],
     from: Stage,
     bytes: &[u8],
@@ -200,7 +210,7 @@ pub(crate) fn walk(
 {
     let mut s = from;
     while s.more {
-        s = step(keys, counts, parts, s, bytes);
+        s = step(keys, counts, guesses, parts, s, bytes);
     }
     s
 }

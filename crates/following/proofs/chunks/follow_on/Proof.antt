@@ -12,7 +12,7 @@ use Rattle.following.proofs.chunks.follow_on.Tie as tie
 -- ---- where a fact stands
 
 abbrev start : tie.After-stage-of → tie.Start
-start c = c .before .before .before .before .before .before .before .before .before
+start c = c .before .before .before .before .before .before .before .before .before .before .before
 
 abbrev staged : tie.After-walk → tie.After-stage-of
 staged c = c .before .before .before
@@ -36,7 +36,7 @@ walk-requires c κs =
 
 keep-requires : tie.Need-keep-requires
 keep-requires c κs =
-    let walked = c .before .before .before .before .before in
+    let walked = c .before .before .before .before .before .before in
     let from = staged walked in
     let s = start from in (
       walk-ends (s .args .s) (now (s .args .buf)) (s .args .got) (s .pre .0) (s .pre .1) (s .pre .2) (s .pre .3) _
@@ -49,13 +49,13 @@ keep-requires c κs =
 returns : tie.Need-returns
 returns c =
     let kept = c .before .before in
-    let walked = kept .before .before .before .before .before .before in
+    let walked = kept .before .before .before .before .before .before .before in
     let from = staged walked in
     let s = start from in
     chunk-told (s .args .s) (now (s .args .buf)) (s .args .got) (s .pre .0) (s .pre .1) (s .pre .2) (s .pre .3) _
     (front-part (s .args .s .held + s .args .got) (now (s .args .buf))) _ (from .stage-of .ensures) _ _ _ _
     (walked .walk .ensures .0)
-    (walked .walk .ensures .1) _ _ (kept .keep .ensures .0) (kept .keep .kept .0) (kept .keep .ensures .1) _
+    (walked .walk .ensures .1) _ _ _ (kept .keep .ensures .0) (kept .keep .kept .0) (kept .keep .ensures .1) _
     (kept .before .before .standing-of .ensures)
 
 -- ---- found by search
@@ -71,6 +71,9 @@ slice-aggregate-walk-2 c = search needs
 
 slice-aggregate-walk-3 : tie.Need-slice-aggregate-walk-3
 slice-aggregate-walk-3 c = search needs
+
+slice-aggregate-walk-4 : tie.Need-slice-aggregate-walk-4
+slice-aggregate-walk-4 c = search needs
 
 stage-of-requires : tie.Need-stage-of-requires
 stage-of-requires c κs = search needs
@@ -98,6 +101,7 @@ follow-on-spec =
     slice-aggregate-walk
     slice-aggregate-walk-2
     slice-aggregate-walk-3
+    slice-aggregate-walk-4
     stage-of-requires
     sub-walk
     part-walk-start

@@ -18,7 +18,7 @@ use Rattle.following.proofs.walking.step.Tie as tie
 -- ---- where a fact stands
 
 abbrev start : tie.After-needed → tie.Start
-start c = c .before .before .before .before .before .before .before
+start c = c .before .before .before .before .before .before .before .before
 
 abbrev asked : tie.Else2 → tie.After-needed
 asked c = c .before .before
@@ -92,13 +92,13 @@ shared-slice-read-is-test-2 c =
 is-test-requires : tie.Need-is-test-requires
 is-test-requires c κs = search needs
 
-add-t25 : tie.Need-add-t25
-add-t25 c =
+add-t26 : tie.Need-add-t26
+add-t26 c =
     let whole = c .before .before .before .before .before in
     omega (arith, ends whole, some (asked whole), start (asked whole) .pre .0 .countable)
 
-add-t27 : tie.Need-add-t27
-add-t27 c = search needs
+add-t28 : tie.Need-add-t28
+add-t28 c = search needs
 
 returns-3 : tie.Need-returns-3
 returns-3 c =
@@ -110,7 +110,7 @@ returns-3 c =
 
 take-record-requires : tie.Need-take-record-requires
 take-record-requires c κs =
-    let whole = c .before .before .before .before .before .before .before in
+    let whole = c .before .before .before .before .before .before .before .before in
     let given = start (asked whole) .pre in (
       (given .0, given .1),
       (told (asked whole), whole .before .if1 .left, ends whole),
@@ -124,6 +124,9 @@ same-length-2 c = search needs
 
 same-length-3 : tie.Need-same-length-3
 same-length-3 c = search needs
+
+same-length-4 : tie.Need-same-length-4
+same-length-4 c = search needs
 
 returns-4 : tie.Need-returns-4
 returns-4 c = search needs
@@ -145,11 +148,12 @@ step-spec =
     add-is-test-2
     shared-slice-read-is-test-2
     is-test-requires
-    add-t25
-    add-t27
+    add-t26
+    add-t28
     returns-3
     take-record-requires
     same-length
     same-length-2
     same-length-3
+    same-length-4
     returns-4)

@@ -15,16 +15,16 @@ use Rattle.following.proofs.walking.take_record.Tie as tie
 -- ---- where a fact stands
 
 abbrev did : tie.After-number → tie.After-deliver-lent
-did c = c .before .before .before .before .before .before .before .before
+did c = c .before .before .before .before .before .before .before .before .before .before
 
 abbrev stood : tie.After-deliver-lent → tie.After-standing-of
 stood c = c .before .before .before
 
 abbrev start : tie.After-standing-of → tie.Start
-start c = c .before .before .before .before .before .before .before .before
+start c = c .before .before .before .before .before .before .before .before .before .before
 
 range : (c : tie.After-standing-of) → Bytes (now (start c .args .bytes))
-range c k = omega (arith, c .before .before .before .before .shared-slice-known .given k)
+range c k = omega (arith, c .before .before .before .before .before .shared-slice-known .given k)
 
 long : (c : tie.After-deliver-lent) → length (c .deliver-lent .last .0) ≡ 1024
 long c = c .deliver-lent .kept .0 ∙ start (stood c) .pre .0 .0 .long
@@ -32,8 +32,8 @@ long c = c .deliver-lent .kept .0 ∙ start (stood c) .pre .0 .0 .long
 paired : (c : tie.After-deliver-lent) → length (c .deliver-lent .last .1 .0) ≡ 1024
 paired c = c .deliver-lent .kept .1 .0 ∙ start (stood c) .pre .0 .0 .paired
 
-cells : (c : tie.After-deliver-lent) → length (c .deliver-lent .last .1 .1 .1 .1 .1 .0) ≡ 32
-cells c = c .deliver-lent .kept .1 .1 .1 .1 .1 .0 ∙ start (stood c) .pre .0 .0 .cells
+cells : (c : tie.After-deliver-lent) → length (c .deliver-lent .last .1 .1 .1 .1 .1 .1 .0) ≡ 32
+cells c = c .deliver-lent .kept .1 .1 .1 .1 .1 .1 .0 ∙ start (stood c) .pre .0 .0 .cells
 
 add-next : tie.Need-add-next
 add-next c = search needs
@@ -62,8 +62,8 @@ deliver-lent-requires c κs =
 number-requires : tie.Need-number-requires
 number-requires c κs = search needs
 
-add-t28 : tie.Need-add-t28
-add-t28 c =
+add-t31 : tie.Need-add-t31
+add-t31 c =
     let begun = start (stood (did (c .before .before))) in
     let given = begun .pre in
     let some = needed-some (stageStanding (begun .args .s)) (rest (begun .args .s) (now (begun .args .bytes))) in
@@ -78,6 +78,9 @@ same-length-2 c = search needs
 same-length-3 : tie.Need-same-length-3
 same-length-3 c = search needs
 
+same-length-4 : tie.Need-same-length-4
+same-length-4 c = search needs
+
 returns : tie.Need-returns
 returns c =
     let numbered = c .before .before in
@@ -85,17 +88,20 @@ returns c =
     let standing = stood delivered in
     let given = start standing .pre in
     step-accepted _ _ _ _ _ (given .0 .0) (given .0 .1) _ (given .1 .0) (given .1 .1) (given .1 .2) (range standing)
-    (standing .before .room .ensures) (standing .standing-of .ensures) _ _ _ _ _ _ (delivered .deliver-lent .ensures)
+    (standing .before .room .ensures) (standing .standing-of .ensures) _ _ _ _ _ _ (delivered .deliver-lent .ensures .0)
     (long delivered) (paired delivered) (cells delivered) (sym (numbered .number .ensures) ∙ c .before .if1 .taken)
-
-same-length-4 : tie.Need-same-length-4
-same-length-4 c = search needs
 
 same-length-5 : tie.Need-same-length-5
 same-length-5 c = search needs
 
 same-length-6 : tie.Need-same-length-6
 same-length-6 c = search needs
+
+same-length-7 : tie.Need-same-length-7
+same-length-7 c = search needs
+
+same-length-8 : tie.Need-same-length-8
+same-length-8 c = search needs
 
 returns-2 : tie.Need-returns-2
 returns-2 c =
@@ -104,7 +110,7 @@ returns-2 c =
     let standing = stood delivered in
     let given = start standing .pre in
     step-refused _ _ _ _ _ (given .0 .0) (given .0 .1) _ (given .1 .0) (given .1 .1) (given .1 .2) (range standing)
-    (standing .before .room .ensures) (standing .standing-of .ensures) _ _ _ _ _ _ (delivered .deliver-lent .ensures)
+    (standing .before .room .ensures) (standing .standing-of .ensures) _ _ _ _ _ _ (delivered .deliver-lent .ensures .0)
     (long delivered) (paired delivered) (cells delivered) _ (numbered .number .ensures) (c .if1 .left)
 
 pub take-record-spec : {M : Type 1} → statement M
@@ -119,12 +125,14 @@ take-record-spec =
     part-deliver-lent-end
     deliver-lent-requires
     number-requires
-    add-t28
+    add-t31
     same-length
     same-length-2
     same-length-3
-    returns
     same-length-4
+    returns
     same-length-5
     same-length-6
+    same-length-7
+    same-length-8
     returns-2)
