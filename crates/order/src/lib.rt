@@ -2,6 +2,8 @@
 // code reads the same table by columns, one for each kind.
 use kinds::Kind;
 ghost use mathlib.Core.Path.{_≡_};
+ghost use Rattle.order.specs.declared.Place.the-variants.{Body};
+ghost use Rattle.order.specs.declared.Step.the-variants.{To, OutOfPlace};
 ghost use Rattle.order.specs.Order.{byPlace, goes};
 
 // Where a stream stands: before its FAR; in its header, behind the FAR and any ATRs; behind its MIR; behind an RDR or
@@ -35,6 +37,15 @@ fn by_place(start: Step, header: Step, lot: Step, setup: Step, body: Step, place
     }
 }
 
+// Where a record takes a stream whose kind the order does not tell from others: to the body, or on in it.
+fn other_place(place: Place) -> Step
+    ensures { λ r. ⌜ r ≡ byPlace OutOfPlace OutOfPlace (To Body) (To Body) (To Body) place ⌝ }
+{
+    let out = Step::OutOfPlace;
+    let body = Step::To(Place::Body);
+    by_place(out, out, body, body, body, place)
+}
+
 // Where the next record, of that kind, takes a stream that stands at the place. The kind is asked first: a caller has
 // just searched for it, so what is left to ask is one place.
 pub fn next_place(place: Place, kind: Kind) -> Step
@@ -44,9 +55,7 @@ pub fn next_place(place: Place, kind: Kind) -> Step
     let header = Step::To(Place::Header);
     let lot = Step::To(Place::Lot);
     let setup = Step::To(Place::Setup);
-    let body = Step::To(Place::Body);
     let ended = Step::To(Place::Ended);
-    let other = by_place(out, out, body, body, body, place);
     match kind {
         Kind::Far => by_place(header, out, out, out, out, place),
         Kind::Atr => by_place(out, header, out, out, out, place),
@@ -54,13 +63,13 @@ pub fn next_place(place: Place, kind: Kind) -> Step
         Kind::Rdr => by_place(out, out, setup, out, out, place),
         Kind::Sdr => by_place(out, out, setup, setup, out, place),
         Kind::Mrr => by_place(out, out, ended, ended, ended, place),
-        Kind::Pcr => other,
-        Kind::Hbr => other,
-        Kind::Sbr => other,
-        Kind::Pir => other,
-        Kind::Prr => other,
-        Kind::Remaining(_) => other,
-        Kind::Custom => other,
-        Kind::Unknown => other,
+        Kind::Pcr => other_place(place),
+        Kind::Hbr => other_place(place),
+        Kind::Sbr => other_place(place),
+        Kind::Pir => other_place(place),
+        Kind::Prr => other_place(place),
+        Kind::Remaining(_) => other_place(place),
+        Kind::Custom => other_place(place),
+        Kind::Unknown => other_place(place),
     }
 }
