@@ -1,5 +1,5 @@
-// Delivers records over lent rows, one after another: what the lent core costs. Two streams go to one session, each
-// many times over: PIR and PRR pairs under 1,024 keys in no order, then PTRs of 30 bytes, whose bodies are not read.
+// Delivers records over lent rows, one after another: what the lent core costs. PIR and PRR pairs under 1,024 keys in no
+// order go to one session, many times over.
 use core::deliver_lent;
 use house::Room;
 use numbers::Order;
@@ -11,16 +11,14 @@ ghost use lib.ListN.{length};
 ghost use Rattle.house.specs.Deliver.{core};
 ghost use Rattle.house.specs.Laws.{Lending};
 
-// 1,024 pairs each, and 1,024 PTRs each
-const PAIR_TURNS: u64 = 2048000;
+// Records: ten thousand times 1,024 pairs.
+const TURNS: u64 = 20480000;
 
-const PTR_TURNS: u64 = 4096000;
-
-// What is left of a session and of the rows but for what is lent, and how many records were accepted.
+// How many records were accepted, rows used and parts counted.
 struct Ran {
     accepted: u64,
     used: usize,
-    standing: Standing,
+    results: u32,
 }
 
 fn wide(x: u8) -> usize
@@ -53,22 +51,6 @@ fn pairs() -> [u8; 17408]
     s
 }
 
-// PTRs, 30 bytes each.
-fn tests() -> [u8; 30720]
-    ensures { λ r. ⌜ length r ≡ 30720 ⌝ }
-{
-    let mut s = [0u8; 30720];
-    let mut i: usize = 0;
-    while i < 1024 {
-        let at = i * 30;
-        s[at] = 26;
-        s[at + 2] = 15;
-        s[at + 3] = 10;
-        i += 1;
-    }
-    s
-}
-
 // Where a record ends that begins at `at`: its length is below 256, in its first byte.
 fn end_of(stream: &[u8], at: usize) -> usize
     requires { ⌜ at < length (now stream) ⌝ }
@@ -81,27 +63,23 @@ fn end_of(stream: &[u8], at: usize) -> usize
     at + n
 }
 
-// Delivers so many records, from the start of the stream again when it ends; `before` were delivered before them.
+// Delivers so many records, from the start of the stream again when it ends, to a session that has no row yet.
 fn follow(
     keys: &mut [u64],
     counts: &mut [u64],
     guesses: &mut [u16],
     parts: &mut [u64],
-    from: Ran,
     room: Room,
+    st: Standing,
     stream: &[u8],
     turns: u64,
-    before: u64,
 ) -> Ran
-    requires { ⌜ Lending room (core (now keys) (now counts) (from .used) (from .standing) (now parts)) (1 + before) ⌝ }
-    requires { ⌜ (before + turns < 4294967295) × (0 < length (now stream)) × (from .accepted ≤ before) ⌝ }
-    ensures { λ r. ⌜ Lending room
-        (core (now (keys .exit)) (now (counts .exit)) (r .used) (r .standing) (now (parts .exit)))
-        (1 + (before + turns)) × (r .accepted ≤ before + turns) ⌝ }
+    requires { ⌜ Lending room (core (now keys) (now counts) 0 st (now parts)) 1 ⌝ }
+    requires { ⌜ (turns < 4294967295) × (0 < length (now stream)) ⌝ }
 {
-    let mut used = from.used;
-    let mut standing = from.standing;
-    let mut accepted = from.accepted;
+    let mut used: usize = 0;
+    let mut standing = st;
+    let mut accepted: u64 = 0;
     let mut at: usize = 0;
     let mut turn: u64 = 0;
     while turn < turns {
@@ -132,7 +110,7 @@ fn follow(
     Ran {
         accepted,
         used,
-        standing,
+        results: standing.results,
     }
 }
 
@@ -153,44 +131,25 @@ fn run() -> Ran {
         pcr: false,
         results: 0,
     };
-    let from = Ran {
-        accepted: 0,
-        used: 0,
-        standing,
-    };
-    let pair_stream = pairs();
-    let r = follow(
-        &mut keys,
-        &mut counts,
-        &mut guesses,
-        &mut parts,
-        from,
-        room,
-        &pair_stream,
-        PAIR_TURNS,
-        0,
-    );
-    let test_stream = tests();
+    let stream = pairs();
     follow(
         &mut keys,
         &mut counts,
         &mut guesses,
         &mut parts,
-        r,
         room,
-        &test_stream,
-        PTR_TURNS,
-        PAIR_TURNS,
+        standing,
+        &stream,
+        TURNS,
     )
 }
 
 fn main() {
     let r = run();
-    let st = r.standing;
     io::print_decimal(1, r.accepted);
     io::write_all(1, b" ");
     io::print_decimal(1, r.used as u64);
     io::write_all(1, b" ");
-    io::print_decimal(1, st.results as u64);
+    io::print_decimal(1, r.results as u64);
     io::write_all(1, b"\n");
 }

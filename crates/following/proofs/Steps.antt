@@ -1,17 +1,16 @@
 -- Laws of one step of a walk over a chunk: a record accepted, refused, too long, or not whole.
 -- Assumes nothing.
 use mathlib.Core.Path.{_≡_, refl, ap, sym, _∙_}
-use mathlib.Core.Bool.{Bool, true, false, false≢true}
+use mathlib.Core.Bool.{true, false, false≢true}
 use mathlib.Core.List.{List, []}
 use Prim.Native.Nat.{ℕ, _+_, _-_, _≤_, _<_}
 use native.Mathlib.Omega.{arith}
-use borrow.Author.Tests.{ltb-true, ltb-false}
-use lib.Dec.{ltb}
-use lib.ListN.{length, getD, take, drop, length-take, length-drop, List·getD-eq-default}
-use lib.Seq.{take-all, getD-take, getD-drop, drop-drop, drop-length}
+use lib.ListN.{length, take, drop, length-drop}
+use lib.Seq.{take-all, drop-drop, drop-length}
 use Rattle.answers.specs.declared.Answer.{Answer}
 use Rattle.answers.specs.Numbers.{numberOf}
 use Rattle.numbers.specs.Laws.{Bytes}
+use Rattle.numbers.proofs.Laws.{part-bytes}
 use Rattle.session.specs.declared.Standing.{Standing}
 use Rattle.house.specs.declared.House.{House}
 use Rattle.house.specs.declared.Room.{Room}
@@ -28,25 +27,6 @@ use Rattle.following.specs.Lent.{Walkable, Onward, Stepped}
 use Rattle.following.proofs.Cuts.{needed-some, waiting, record-taken, record-long, answered-done, answered-not}
 use Rattle.following.proofs.Cuts.{stays-refused}
 use Rattle.following.proofs.Alone.{lent-alone, deliver-alone, sound-after}
-
--- a part of bytes is bytes
-part-bytes : (bytes : List ℕ) (at n : ℕ) → Bytes bytes → Bytes (take n (drop at bytes))
-part-bytes bytes at n low k = go (ltb k n) refl
-  where
-    go : (t : Bool) → ltb k n ≡ t → getD (take n (drop at bytes)) k 0 < 256
-    go true e =
-        omega (
-          arith,
-          getD-take n (drop at bytes) k 0 (ltb-true k n e),
-          getD-drop at bytes k 0,
-          low (at + k),
-        )
-    go false e =
-        omega (
-          arith,
-          List·getD-eq-default (take n (drop at bytes)) 0 {n = k}
-              (omega (arith, ltb-false k n e, length-take n (drop at bytes))),
-        )
 
 -- the part `&bytes[at..]`
 pub rest-all : (bytes : List ℕ) (at : ℕ) → take (length bytes - at) (drop at bytes) ≡ drop at bytes

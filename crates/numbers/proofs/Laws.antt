@@ -6,11 +6,11 @@ use mathlib.Core.List.{List, [], _∷_, _++_, reverseAux, reverse-reverse}
 use Prim.Native.Nat.{ℕ, zero, suc, _+_, _-_, _*_, _/_, _%_, _^_, _≤_, _<_}
 use native.Mathlib.Nat.{zero-add, add-zero, add-suc}
 use native.Mathlib.Omega.{arith}
-use borrow.Author.Tests.{le-ltb, ltb-false}
+use borrow.Author.Tests.{le-ltb, ltb-true, ltb-false}
 use lib.Dec.{ltb}
 use lib.IntN.{ℤ, pos, negsuc, _-ℤ_}
-use lib.ListN.{length, getD, drop, length-reverse}
-use lib.Seq.{sets, sets-eq, getD-drop}
+use lib.ListN.{length, getD, take, drop, length-reverse, length-take, List·getD-eq-default}
+use lib.Seq.{sets, sets-eq, getD-take, getD-drop}
 use mir.Syntax.{w16}
 use mir.Val.{SFits, toZ, ofZ}
 use mir.Facts.{sfits-toZ, toZ-pos, toZ-ofZ}
@@ -18,7 +18,7 @@ use Rattle.words.proofs.Parts.{part-from}
 use Rattle.numbers.specs.declared.Order.{Order}
 use Rattle.numbers.specs.declared.Order.the-variants.{HighFirst, LowFirst}
 use Rattle.numbers.specs.Numbers.{ordered, worth, number, front, bytes, written, over, past, signed}
-use Rattle.numbers.specs.Laws.{Bytes, ReadWritten, WrittenRead, LengthWritten, NumberBelow, FrontPart}
+use Rattle.numbers.specs.Laws.{Bytes, ReadWritten, WrittenRead, LengthWritten, NumberBelow, FrontPart, PartBytes}
 
 -- ---- low byte first
 
@@ -87,6 +87,20 @@ pub front-part : FrontPart
 front-part w k s =
     ap (front w 0) (part-from s k) ∙ front-drop-from w k 0 s
     ∙ rw (add-zero k)
+
+-- past the end of a part there is 0
+pub part-bytes : PartBytes
+part-bytes s at n low k = go (ltb k n) refl
+  where
+    go : (t : Bool) → ltb k n ≡ t → getD (take n (drop at s)) k 0 < 256
+    go true e =
+        omega (arith, getD-take n (drop at s) k 0 (ltb-true k n e), getD-drop at s k 0, low (at + k))
+    go false e =
+        omega (
+          arith,
+          List·getD-eq-default (take n (drop at s)) 0 {n = k}
+              (omega (arith, ltb-false k n e, length-take n (drop at s))),
+        )
 
 -- one byte is worth itself in either order
 pub one-byte : (order : Order) (b : ℕ) → number order (b ∷ []) ≡ b

@@ -30,3 +30,7 @@ NumberBelow = (order : Order) (s : List ℕ) → Bytes s → number order s < pa
 -- the part `&s[k..]` begins with the bytes from place k on
 abbrev pub FrontPart : Type 0
 FrontPart = (w k : ℕ) (s : List ℕ) → front w 0 (take (length s - k) (drop k s)) ≡ front w k s
+
+-- a part of bytes is bytes
+abbrev pub PartBytes : Type 0
+PartBytes = (s : List ℕ) (at n : ℕ) → Bytes s → Bytes (take n (drop at s))

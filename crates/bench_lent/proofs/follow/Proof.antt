@@ -8,22 +8,22 @@ use lib.ListN.{length}
 use denote.Ref.{now}
 use borrow.Author.Needs.{needs}
 use Rattle.numbers.specs.Laws.{Bytes}
+use Rattle.numbers.proofs.Laws.{part-bytes}
 use Rattle.house.specs.Deliver.{Outcome, core}
 use Rattle.house.specs.Laws.{Lending}
 use Rattle.house.proofs.Lending.{lending-core, lending-kept}
-use Rattle.bench_lent.proofs.Laws.{part-bytes}
 use Rattle.bench_lent.proofs.follow.Statement.{statement}
 use Rattle.bench_lent.proofs.follow.Tie as tie
 
 abbrev Inv-loop : tie.InvT-loop
-Inv-loop keys₀ counts₀ guesses₀ parts₀ room stream turns before used₀ standing₀ accepted₀ at₀ turn₀ keys counts guesses parts
-    used standing accepted at turn =
-    Lending room (core keys counts used standing parts) (1 + (before + turn)) × (accepted ≤ before + turn)
-    × (at < length stream) × (turn ≤ turns) × (length guesses ≡ length guesses₀)
+Inv-loop keys₀ counts₀ guesses₀ parts₀ room stream turns used₀ standing₀ accepted₀ at₀ turn₀ keys counts guesses parts used
+    standing accepted at turn =
+    Lending room (core keys counts used standing parts) (1 + turn) × (accepted ≤ turn) × (at < length stream)
+    × (turn ≤ turns) × (length guesses ≡ length guesses₀)
 
 abbrev μ-loop : tie.MeasureT-loop
-μ-loop keys₀ counts₀ guesses₀ parts₀ room stream turns before used₀ standing₀ accepted₀ at₀ turn₀ keys counts guesses parts
-    used standing accepted at turn =
+μ-loop keys₀ counts₀ guesses₀ parts₀ room stream turns used₀ standing₀ accepted₀ at₀ turn₀ keys counts guesses parts used
+    standing accepted at turn =
     turns - turn
 
 -- ---- where a fact stands
@@ -40,8 +40,7 @@ did c = c .before .before .before .before .before .before .before .before .befor
 loop-holds : tie.Need-loop-holds Inv-loop μ-loop
 loop-holds c =
     let s = c .before .before .before .before .before .before in
-    let none : 1 + (s .args .before + 0) ≡ 1 + s .args .before = omega arith in
-    (rw none (s .pre .0), omega arith, omega arith, omega arith, refl)
+    (s .pre .0, omega arith, omega arith, omega arith, refl)
 
 end-of-requires : tie.Need-end-of-requires Inv-loop μ-loop
 end-of-requires c κs = search needs
@@ -85,8 +84,8 @@ loop-again c =
     let room = s .args .room in
     let stream = s .args .stream .now in
     let at = t .loop .at in
-    let most = 1 + (s .args .before + t .loop .turn) in
-    let more : most + 1 ≡ 1 + (s .args .before + (t .loop .turn + 1)) = omega arith in
+    let most = 1 + t .loop .turn in
+    let more : most + 1 ≡ 1 + (t .loop .turn + 1) = omega arith in
     let bytes : Bytes stream = λ k. omega (arith, t .before .before .shared-slice-known .given k) in
     let range = part-bytes stream at (ended .end-of .result - at) bytes in
     let kept = lending-kept room _ most _ range (omega arith) (omega arith) (t .loop .inv .0) in (
@@ -112,12 +111,6 @@ same-length-4 : tie.Need-same-length-4 Inv-loop μ-loop
 same-length-4 c =
     c .before .loop .inv .0 .cells ∙ sym (start (c .before) .pre .0 .cells)
 
-returns : tie.Need-returns Inv-loop μ-loop
-returns c =
-    let t = c .before in
-    let all : t .loop .turn ≡ start t .args .turns = omega arith in
-    (rw (← all) (t .loop .inv .0), omega arith)
-
 pub follow-spec : {M : Type 1} → statement M
 follow-spec =
     tie.close
@@ -138,5 +131,4 @@ follow-spec =
     same-length
     same-length-2
     same-length-3
-    same-length-4
-    returns)
+    same-length-4)
