@@ -29,7 +29,7 @@ abbrev μ-loop : tie.MeasureT-loop
 -- ---- where a fact stands
 
 abbrev start : tie.At-loop Inv-loop μ-loop → tie.Start Inv-loop μ-loop
-start c = c .before .before .before .before .before .before .before
+start c = c .before .before .before .before .before .before
 
 abbrev turn : tie.After-deliver-lent Inv-loop μ-loop → tie.At-loop Inv-loop μ-loop
 turn c = c .before .before .before .before .before .before .before .before
@@ -39,7 +39,7 @@ did c = c .before .before .before .before .before .before .before .before .befor
 
 loop-holds : tie.Need-loop-holds Inv-loop μ-loop
 loop-holds c =
-    let s = c .before .before .before .before .before .before in
+    let s = c .before .before .before .before .before in
     (s .pre .0, omega arith, omega arith, omega arith, refl)
 
 end-of-requires : tie.Need-end-of-requires Inv-loop μ-loop
@@ -86,7 +86,7 @@ loop-again c =
     let at = t .loop .at in
     let most = 1 + t .loop .turn in
     let more : most + 1 ≡ 1 + (t .loop .turn + 1) = omega arith in
-    let bytes : Bytes stream = λ k. omega (arith, t .before .before .shared-slice-known .given k) in
+    let bytes : Bytes stream = λ k. omega (arith, t .before .shared-slice-known .given k) in
     let range = part-bytes stream at (ended .end-of .result - at) bytes in
     let kept = lending-kept room _ most _ range (omega arith) (omega arith) (t .loop .inv .0) in (
       rw (← more) (subst (λ (o : Outcome). Lending room (o .core) (most + 1)) (sym (done .deliver-lent .ensures .0)) kept),
@@ -111,6 +111,9 @@ same-length-4 : tie.Need-same-length-4 Inv-loop μ-loop
 same-length-4 c =
     c .before .loop .inv .0 .cells ∙ sym (start (c .before) .pre .0 .cells)
 
+returns : tie.Need-returns Inv-loop μ-loop
+returns c = search needs
+
 pub follow-spec : {M : Type 1} → statement M
 follow-spec =
     tie.close
@@ -131,4 +134,5 @@ follow-spec =
     same-length
     same-length-2
     same-length-3
-    same-length-4)
+    same-length-4
+    returns)

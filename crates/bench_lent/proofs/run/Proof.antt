@@ -29,6 +29,9 @@ follow-requires c κs =
     let made = c .before .before .before .before .before in
     (begun-lending, (omega arith, omega (arith, made .pairs .ensures)))
 
+returns : tie.Need-returns
+returns c = search needs
+
 pub run-spec : {M : Type 1} → statement M
 run-spec =
     tie.close
@@ -39,4 +42,5 @@ run-spec =
     slice-aggregate-follow-3
     slice-aggregate-follow-4
     slice-aggregate-follow-5
-    follow-requires)
+    follow-requires
+    returns)
