@@ -7,9 +7,10 @@ use house::Row;
 use rows::held_by;
 use rows::slot_rank;
 ghost use mathlib.Core.Path.{_≡_};
-ghost use Prim.Native.Nat.{_<_};
+ghost use Prim.Native.Nat.{_≤_, _<_};
 ghost use lib.ListN.{length};
-ghost use Rattle.house.specs.Report.{rowAt, rowsOf, reported, filled};
+ghost use Rattle.house.specs.Deliver.{pastCounts};
+ghost use Rattle.house.specs.Report.{keyedRow, rowAt, rowsOf, rowsFrom, reported, filled};
 
 // What a report of a slot is answered, and how many rows it has, where `long` is the room for them.
 pub fn judge_report(house: House, slot: u32, long: usize) -> Reported
@@ -49,15 +50,25 @@ pub fn judge_report(house: House, slot: u32, long: usize) -> Reported
     }
 }
 
-// The i-th row of a slot's report. Its count fits: it is part of the slot's sum, which is the number of its PRRs.
-pub fn row_at(house: House, slot: u32, i: usize) -> Row
-    requires { ⌜ i < rowsOf house slot ⌝ }
-    ensures { λ r. ⌜ r ≡ rowAt house slot i ⌝ }
+// Where the rows of a report stand among all rows. A report of no rows has no place, and none is looked for: its house
+// may be out of order.
+pub fn first_row(house: House, slot: u32, rows: usize) -> usize
+    requires { ⌜ rows ≤ rowsOf house slot ⌝ }
+    ensures { λ r. ⌜ r ≡ rowsFrom house slot rows ⌝ }
 {
+    if rows == 0 {
+        return 0;
+    }
     let h = house;
-    let at = slot_rank(&h.keys, h.used, slot as usize) + i;
-    let key = h.keys[at];
-    let count = h.counts[at];
+    slot_rank(&h.keys, h.used, slot as usize)
+}
+
+// A row of a report. It is given the two numbers, and not the house they stand in: a house is 21 KB, and is not copied
+// for each row. That the count fits is known of any row of a sound house: it is part of the slot's sum.
+pub fn keyed_row(key: u64, count: u64) -> Row
+    requires { ⌜ count < pastCounts ⌝ }
+    ensures { λ r. ⌜ r ≡ keyedRow key count ⌝ }
+{
     Row {
         head: (key / 16777216 % 256) as u8,
         site: (key / 65536 % 256) as u8,
@@ -72,9 +83,12 @@ pub fn report(out: &mut [Row], house: House, slot: u32) -> Reported
         × (now (out .exit) ≡ filled (rowAt house slot) (r .rows) (now (out .entry))) ⌝ }
 {
     let j = judge_report(house, slot, out.len());
+    let from = first_row(house, slot, j.rows);
+    let h = house;
     let mut i: usize = 0;
     while i < j.rows {
-        out[i] = row_at(house, slot, i);
+        let at = from + i;
+        out[i] = keyed_row(h.keys[at], h.counts[at]);
         i = i + 1;
     }
     j

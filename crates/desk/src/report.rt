@@ -1,12 +1,13 @@
 // The call report. The desk lends no slice of row structs, a form that has to be proved by hand: it asks how many rows
-// a slice of that length would get, and writes each row as the house yields it.
+// a slice of that length would get, and writes each row from where it stands in the house.
 use crate::parsing::Number;
 use crate::text::no_call;
 use crate::text::say;
 use crate::text::say_answer;
 use crate::text::say_number;
+use calls::first_row;
 use calls::judge_report;
-use calls::row_at;
+use calls::keyed_row;
 use house::House;
 use house::Reported;
 use house::Row;
@@ -27,9 +28,12 @@ fn say_row(row: Row) {
 fn say_rows(house: House, slot: u32, rows: usize)
     requires { ⌜ rows ≤ rowsOf house slot ⌝ }
 {
+    let h = house;
+    let from = first_row(house, slot, rows);
     let mut i: usize = 0;
     while i < rows {
-        say_row(row_at(house, slot, i));
+        let k = from + i;
+        say_row(keyed_row(h.keys[k], h.counts[k]));
         i += 1;
     }
 }

@@ -6,8 +6,9 @@ use crate::saying::put_refused;
 use crate::saying::put_row;
 use crate::saying::put_too_long;
 use crate::saying::put_unfinished;
+use calls::first_row;
 use calls::judge_report;
-use calls::row_at;
+use calls::keyed_row;
 use core::is_sound;
 use house::House;
 use house::Slot;
@@ -53,10 +54,12 @@ fn put_rows(out: &mut [u8], h: House) -> usize
 {
     let found = judge_report(h, 0, 1024);
     let rows = found.rows;
+    let from = first_row(h, 0, rows);
     let mut at: usize = 0;
     let mut i: usize = 0;
     while i < rows {
-        at += put_row(out, at, row_at(h, 0, i));
+        let k = from + i;
+        at += put_row(out, at, keyed_row(h.keys[k], h.counts[k]));
         i += 1;
     }
     at

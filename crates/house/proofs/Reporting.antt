@@ -15,7 +15,7 @@ use Rattle.words.specs.Choice.{_unless_then_}
 use Rattle.words.proofs.Both.{both-left, both-right}
 use Rattle.answers.specs.declared.Answer.the-variants.{Done, NoSuchSlot, SlotClosed, NotSound, OutputTooShort}
 use Rattle.rising.specs.Rising.{rising}
-use Rattle.rows.specs.Rows.{slotCount, slotOf, headOf, siteOf, binOf, heldBy, sumBy, rowsRight, slotRank}
+use Rattle.rows.specs.Rows.{slotCount, slotOf, heldBy, sumBy, rowsRight, slotRank}
 use Rattle.rows.proofs.Laws.{held-ranks, held-within, run-end, run-own, run-within, count-within}
 use Rattle.house.specs.declared.Slot.{Slot}
 use Rattle.house.specs.declared.House.{House}
@@ -23,7 +23,8 @@ use Rattle.house.specs.declared.Row.{Row}
 use Rattle.house.specs.declared.Reported.{Reported}
 use Rattle.house.specs.House.{rowCount, noSlot, keysOf, countsOf, takenOf, rowsSound, sound}
 use Rattle.house.specs.Calls.{slotAt}
-use Rattle.house.specs.Report.{rowAt, rowsOf, unreported, reported, filled}
+use Rattle.house.specs.Deliver.{pastCounts}
+use Rattle.house.specs.Report.{keyedRow, rowAt, rowsOf, rowsFrom, unreported, reported, filled}
 use Rattle.house.proofs.Calling.{OpenSlot, open-told, slots-at, told-within, told-rows, told-slots}
 
 -- ---- the answers
@@ -138,12 +139,33 @@ module _ (h : House) (slot i : ℕ) (row : i < rowsOf h slot) where
         ∙ row-slot .sum in
         omega (arith, part, sum, getD-take (h .used) (h .counts) at 0 row-used)
 
--- the row that stands there
-pub row-told : (h : House) (slot i at : ℕ) → at ≡ slotRank slot (keysOf h) + i
-    → let key = getD (h .keys) at 0 in
-    record { head = headOf key; site = siteOf key; bin = binOf key; count = getD (h .counts) at 0 } ≡ rowAt h slot i
-unfolding rowAt
-row-told h slot i at is = rw is
+-- ---- a report that reads its rows where they stand
+
+pub rows-begin : (h : House) (slot rows : ℕ) → 0 < rows → rowsFrom h slot rows ≡ slotRank slot (keysOf h)
+rows-begin h slot zero some = absurd (omega (arith, some))
+rows-begin h slot (suc n) some = refl
+
+module _ (h : House) (slot rows from i : ℕ) (held : rows ≤ rowsOf h slot) (low : i < rows)
+    (is : from ≡ rowsFrom h slot rows) where
+  stands : from + i ≡ slotRank slot (keysOf h) + i
+  stands = ap (λ (n : ℕ). n + i) (is ∙ rows-begin h slot rows (omega (arith, low)))
+
+  row : i < rowsOf h slot
+  row = omega (arith, held, low)
+
+  pub stands-within : length (h .keys) ≡ rowCount → from + i < rowCount
+  stands-within long =
+      omega (arith, stands, row-used h slot i row long, told-within h (row-fine h slot i row))
+
+  -- its count fits: the slot's results are at most 4,294,967,295
+  pub stands-low : length (h .keys) ≡ rowCount → length (h .counts) ≡ rowCount
+      → getD (h .counts) (from + i) 0 < pastCounts
+  stands-low long paired =
+      rw stands (omega (arith, row-count h slot i row long paired, row-slot h slot i row .few))
+
+  pub stands-told : keyedRow (getD (h .keys) (from + i) 0) (getD (h .counts) (from + i) 0) ≡ rowAt h slot i
+  unfolding rowAt
+  stands-told = rw stands
 
 -- ---- how many rows are written: no more than there are, nor than the slice is long
 
