@@ -2,6 +2,7 @@
 use answers::Answer;
 use core::is_sound;
 use house::House;
+use house::Listing;
 use house::Reported;
 use house::Row;
 use rows::held_by;
@@ -9,8 +10,9 @@ use rows::slot_rank;
 ghost use mathlib.Core.Path.{_≡_};
 ghost use Prim.Native.Nat.{_≤_, _<_};
 ghost use lib.ListN.{length};
+ghost use Rattle.house.specs.House.{rowCount};
 ghost use Rattle.house.specs.Deliver.{pastCounts};
-ghost use Rattle.house.specs.Report.{keyedRow, rowAt, rowsOf, rowsFrom, reported, filled};
+ghost use Rattle.house.specs.Report.{keyedRow, rowAt, rowsOf, rowsFrom, reported, filled, noRows, listing};
 
 // What a report of a slot is answered, and how many rows it has, where `long` is the room for them.
 pub fn judge_report(house: House, slot: u32, long: usize) -> Reported
@@ -52,7 +54,7 @@ pub fn judge_report(house: House, slot: u32, long: usize) -> Reported
 
 // Where the rows of a report stand among all rows. A report of no rows has no place, and none is looked for: its house
 // may be out of order.
-pub fn first_row(house: House, slot: u32, rows: usize) -> usize
+fn first_row(house: House, slot: u32, rows: usize) -> usize
     requires { ⌜ rows ≤ rowsOf house slot ⌝ }
     ensures { λ r. ⌜ r ≡ rowsFrom house slot rows ⌝ }
 {
@@ -63,9 +65,9 @@ pub fn first_row(house: House, slot: u32, rows: usize) -> usize
     slot_rank(&h.keys, h.used, slot as usize)
 }
 
-// A row of a report. It is given the two numbers, and not the house they stand in: a house is 21 KB, and is not copied
-// for each row. That the count fits is known of any row of a sound house: it is part of the slot's sum.
-pub fn keyed_row(key: u64, count: u64) -> Row
+// A row of a report. It is given its two numbers and not the house they stand in: a house is 21 KB, and is not copied
+// for each row. The count of a row in a sound house fits: it is part of the slot's sum, which is the number of its PRRs.
+fn keyed_row(key: u64, count: u64) -> Row
     requires { ⌜ count < pastCounts ⌝ }
     ensures { λ r. ⌜ r ≡ keyedRow key count ⌝ }
 {
@@ -92,4 +94,38 @@ pub fn report(out: &mut [Row], house: House, slot: u32) -> Reported
         i = i + 1;
     }
     j
+}
+
+fn no_rows() -> [Row; 1024]
+    ensures { λ r. ⌜ r ≡ noRows ⌝ }
+{
+    let row = Row {
+        head: 0,
+        site: 0,
+        bin: 0,
+        count: 0,
+    };
+    [row; 1024]
+}
+
+// Lends the first `room` of 1,024 rows to `report`.
+fn lend_rows(house: House, slot: u32, room: usize) -> Listing
+    requires { ⌜ room ≤ rowCount ⌝ }
+    ensures { λ r. ⌜ r ≡ listing house slot room ⌝ }
+{
+    let mut rows = no_rows();
+    let reported = report(&mut rows[..room], house, slot);
+    Listing { reported, rows }
+}
+
+// A report by value, as a slice of `long` rows gets it. To lend a slice of row structs has to be proved by hand: here it
+// is done once for every caller.
+pub fn list_rows(house: House, slot: u32, long: usize) -> Listing
+    ensures { λ r. ⌜ r ≡ listing house slot long ⌝ }
+{
+    if long < 1024 {
+        lend_rows(house, slot, long)
+    } else {
+        lend_rows(house, slot, 1024)
+    }
 }

@@ -7,12 +7,13 @@
 --   reported   what the call answers, and how many rows it writes into a slice that is so long
 --   listed     the first rows of a report, one after the other
 --   filled     a slice whose first rows are written, every other as it was
+--   listing    a report by value
 -- Assumes nothing.
 use Prim.Native.Nat.{ℕ, zero, suc, _+_}
 use mathlib.Core.Bool.{cond, _&&_}
 use mathlib.Core.List.{List, [], _∷_, _++_}
 use lib.Dec.{leb, ltb}
-use lib.ListN.{getD, set}
+use lib.ListN.{getD, set, replicate}
 use Rattle.words.specs.Choice.{_unless_then_}
 use Rattle.answers.specs.declared.Answer.{Answer}
 use Rattle.answers.specs.declared.Answer.the-variants.{Done, NoSuchSlot, SlotClosed, NotSound, OutputTooShort}
@@ -20,7 +21,8 @@ use Rattle.rows.specs.Rows.{slotCount, headOf, siteOf, binOf, heldBy, slotRank}
 use Rattle.house.specs.declared.House.{House}
 use Rattle.house.specs.declared.Row.{Row}
 use Rattle.house.specs.declared.Reported.{Reported}
-use Rattle.house.specs.House.{keysOf, sound}
+use Rattle.house.specs.declared.Listing.{Listing}
+use Rattle.house.specs.House.{rowCount, keysOf, sound}
 use Rattle.house.specs.Calls.{slotAt}
 
 abbrev pub keyedRow : ℕ → ℕ → Row
@@ -59,3 +61,12 @@ listed row (suc i) = listed row i ++ (row i ∷ [])
 abbrev pub filled : (ℕ → Row) → ℕ → List Row → List Row
 filled row zero old = old
 filled row (suc i) old = set (filled row i old) i (row i)
+
+abbrev pub noRows : List Row
+noRows = replicate rowCount (record { head = 0; site = 0; bin = 0; count = 0 })
+
+-- all rows there can be have room in 1,024, so a longer slice is answered the same
+unfoldable pub listing : House → ℕ → ℕ → Listing
+listing h slot long =
+    let r = reported h slot long in
+    record { reported = r; rows = filled (rowAt h slot) (r .rows) noRows }

@@ -1,13 +1,11 @@
 -- `calls::reports::first_row` meets its contract: where there is a row, the house is sound and the slot is one of its.
 -- Assumes nothing.
-use mathlib.Core.Path.{_≡_, refl, sym, _∙_}
-use Prim.Native.Nat.{ℕ, zero, suc, _<_, _≤_}
+use mathlib.Core.Path.{_≡_, sym, _∙_}
+use Prim.Native.Nat.{_<_}
 use native.Mathlib.Omega.{arith}
 use lib.ListN.{length}
 use borrow.Author.Needs.{needs}
-use Rattle.house.specs.declared.House.{House}
-use Rattle.house.specs.House.{keysOf}
-use Rattle.house.specs.Report.{rowsOf, rowsFrom}
+use Rattle.house.specs.Report.{rowsOf}
 use Rattle.house.proofs.Calling.{told-within}
 use Rattle.house.proofs.Reporting.{told-rises, row-fine, row-there, rows-begin}
 use Rattle.calls.proofs.reports.first_row.Statement.{statement}

@@ -33,7 +33,7 @@ use types.Run.{no-more, land, assigns, assigns-last, stays, leaves-loop, returns
 use types.Run.{pass0, free1, free0, exec}
 use types.Part.{whole, sub, look-in}
 use sound.Loop.{loop-rule}
-use sound.WpLaws.{FmC, fmOf, WpFn-mono}
+use sound.WpLaws.{fmOf, WpFn-mono}
 use denote.RattleType.{owns}
 use denote.Shadow.{pureI}
 use denote.Laws.{Is, shows}
