@@ -2,14 +2,17 @@
 use answers::Answer;
 use core::is_sound;
 use house::House;
+use house::Listing;
 use house::Reported;
 use house::Row;
 use rows::held_by;
 use rows::slot_rank;
 ghost use mathlib.Core.Path.{_≡_};
-ghost use Prim.Native.Nat.{_<_};
+ghost use Prim.Native.Nat.{_≤_, _<_};
 ghost use lib.ListN.{length};
-ghost use Rattle.house.specs.Report.{rowAt, rowsOf, reported, filled};
+ghost use Rattle.house.specs.House.{rowCount};
+ghost use Rattle.house.specs.Deliver.{pastCounts};
+ghost use Rattle.house.specs.Report.{keyedRow, rowAt, rowsOf, rowsFrom, reported, filled, noRows, listing};
 
 // What a report of a slot is answered, and how many rows it has, where `long` is the room for them.
 pub fn judge_report(house: House, slot: u32, long: usize) -> Reported
@@ -49,15 +52,25 @@ pub fn judge_report(house: House, slot: u32, long: usize) -> Reported
     }
 }
 
-// The i-th row of a slot's report. Its count fits: it is part of the slot's sum, which is the number of its PRRs.
-pub fn row_at(house: House, slot: u32, i: usize) -> Row
-    requires { ⌜ i < rowsOf house slot ⌝ }
-    ensures { λ r. ⌜ r ≡ rowAt house slot i ⌝ }
+// Where the rows of a report stand among all rows. A report of no rows has no place, and none is looked for: its house
+// may be out of order.
+fn first_row(house: House, slot: u32, rows: usize) -> usize
+    requires { ⌜ rows ≤ rowsOf house slot ⌝ }
+    ensures { λ r. ⌜ r ≡ rowsFrom house slot rows ⌝ }
 {
+    if rows == 0 {
+        return 0;
+    }
     let h = house;
-    let at = slot_rank(&h.keys, h.used, slot as usize) + i;
-    let key = h.keys[at];
-    let count = h.counts[at];
+    slot_rank(&h.keys, h.used, slot as usize)
+}
+
+// A row of a report. It is given its two numbers and not the house they stand in: a house is 21 KB, and is not copied
+// for each row. The count of a row in a sound house fits: it is part of the slot's sum, which is the number of its PRRs.
+fn keyed_row(key: u64, count: u64) -> Row
+    requires { ⌜ count < pastCounts ⌝ }
+    ensures { λ r. ⌜ r ≡ keyedRow key count ⌝ }
+{
     Row {
         head: (key / 16777216 % 256) as u8,
         site: (key / 65536 % 256) as u8,
@@ -72,10 +85,47 @@ pub fn report(out: &mut [Row], house: House, slot: u32) -> Reported
         × (now (out .exit) ≡ filled (rowAt house slot) (r .rows) (now (out .entry))) ⌝ }
 {
     let j = judge_report(house, slot, out.len());
+    let from = first_row(house, slot, j.rows);
+    let h = house;
     let mut i: usize = 0;
     while i < j.rows {
-        out[i] = row_at(house, slot, i);
+        let at = from + i;
+        out[i] = keyed_row(h.keys[at], h.counts[at]);
         i = i + 1;
     }
     j
+}
+
+fn no_rows() -> [Row; 1024]
+    ensures { λ r. ⌜ r ≡ noRows ⌝ }
+{
+    let row = Row {
+        head: 0,
+        site: 0,
+        bin: 0,
+        count: 0,
+    };
+    [row; 1024]
+}
+
+// Lends the first `room` of 1,024 rows to `report`.
+fn lend_rows(house: House, slot: u32, room: usize) -> Listing
+    requires { ⌜ room ≤ rowCount ⌝ }
+    ensures { λ r. ⌜ r ≡ listing house slot room ⌝ }
+{
+    let mut rows = no_rows();
+    let reported = report(&mut rows[..room], house, slot);
+    Listing { reported, rows }
+}
+
+// A report by value, as a slice of `long` rows gets it. To lend a slice of row structs has to be proved by hand: here it
+// is done once for every caller.
+pub fn list_rows(house: House, slot: u32, long: usize) -> Listing
+    ensures { λ r. ⌜ r ≡ listing house slot long ⌝ }
+{
+    if long < 1024 {
+        lend_rows(house, slot, long)
+    } else {
+        lend_rows(house, slot, 1024)
+    }
 }

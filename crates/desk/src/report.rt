@@ -1,17 +1,15 @@
-// The call report. The desk lends no slice of row structs, a form that has to be proved by hand: it asks how many rows
-// a slice of that length would get, and writes each row as the house yields it.
+// The call report, over a slice of LENGTH rows. No report has more than 1,024 rows, so a longer one is as good as one of
+// 1,024: what is printed are the rows that were written to the slice.
 use crate::parsing::Number;
 use crate::text::no_call;
 use crate::text::say;
 use crate::text::say_answer;
 use crate::text::say_number;
-use calls::judge_report;
-use calls::row_at;
+use calls::list_rows;
 use house::House;
-use house::Reported;
+use house::Listing;
 use house::Row;
 ghost use Prim.Native.Nat.{_≤_};
-ghost use Rattle.house.specs.Report.{rowsOf};
 
 fn say_row(row: Row) {
     say(b" ");
@@ -24,30 +22,23 @@ fn say_row(row: Row) {
     say_number(row.count);
 }
 
-fn say_rows(house: House, slot: u32, rows: usize)
-    requires { ⌜ rows ≤ rowsOf house slot ⌝ }
+// How many rows there are, and the rows.
+fn say_rows(list: Listing, rows: usize)
+    requires { ⌜ rows ≤ 1024 ⌝ }
 {
+    say(b" ");
+    io::print_decimal(1, rows as u64);
     let mut i: usize = 0;
     while i < rows {
-        say_row(row_at(house, slot, i));
+        say_row(list.rows[i]);
         i += 1;
     }
 }
 
-// How many rows there are, and the rows.
-fn say_report(house: House, slot: u32, rows: usize)
-    requires { ⌜ rows ≤ rowsOf house slot ⌝ }
+fn listed(house: House, slot: u32, long: usize) -> Listing
+    ensures { λ r. ⌜ r .reported .rows ≤ 1024 ⌝ }
 {
-    say(b" ");
-    io::print_decimal(1, rows as u64);
-    say_rows(house, slot, rows);
-}
-
-// No more rows are judged than can be yielded.
-fn judged(house: House, slot: u32, long: usize) -> Reported
-    ensures { λ r. ⌜ r .rows ≤ rowsOf house slot ⌝ }
-{
-    judge_report(house, slot, long)
+    list_rows(house, slot, long)
 }
 
 pub(crate) fn report_call(house: House, slot: Number, long: Number) -> House {
@@ -57,11 +48,12 @@ pub(crate) fn report_call(house: House, slot: Number, long: Number) -> House {
     let Number::Is(n) = long else {
         return no_call(house);
     };
-    let j = judged(house, s, n as usize);
-    let answer = j.answer;
+    let list = listed(house, s, n as usize);
+    let reported = list.reported;
+    let answer = reported.answer;
     say_answer(answer);
     if answers::number(answer) == 0 {
-        say_report(house, s, j.rows);
+        say_rows(list, reported.rows);
     }
     say(b"\n");
     house

@@ -6,8 +6,7 @@ use crate::saying::put_refused;
 use crate::saying::put_row;
 use crate::saying::put_too_long;
 use crate::saying::put_unfinished;
-use calls::judge_report;
-use calls::row_at;
+use calls::list_rows;
 use core::is_sound;
 use house::House;
 use house::Slot;
@@ -51,12 +50,13 @@ fn put_rows(out: &mut [u8], h: House) -> usize
     requires { ⌜ mostText ≤ length (now out) ⌝ }
     ensures { λ r. ⌜ Put (reportLines h) (now (out .entry)) r (now (out .exit)) ⌝ }
 {
-    let found = judge_report(h, 0, 1024);
+    let list = list_rows(h, 0, 1024);
+    let found = list.reported;
     let rows = found.rows;
     let mut at: usize = 0;
     let mut i: usize = 0;
     while i < rows {
-        at += put_row(out, at, row_at(h, 0, i));
+        at += put_row(out, at, list.rows[i]);
         i += 1;
     }
     at

@@ -36,7 +36,7 @@ use Rattle.house.specs.House.{rowCount, noSlot, closedSlot, fresh, keysO
 use Rattle.house.specs.House.{promisedFrom, promised, takenOf, sound}
 use Rattle.house.specs.Deliver.{granted}
 use Rattle.house.specs.Calls.{slotAt, openSlot, closeSlot, roomOf, deliver}
-use Rattle.house.specs.Report.{rowAt, listed}
+use Rattle.house.specs.Report.{keyedRow, rowAt, listed}
 use Rattle.house.specs.History.{Call, Open, Deliver, Report, Close, Figured, Listed, reply, answerOf, after}
 use Rattle.house.specs.History.{Said, reached, said, history, names, Sent, AllSent}
 use Rattle.house.specs.Tally.{Heard, nothing, counting, following, doneBy, isDone, heard, heardFrom, toldOf}
@@ -265,8 +265,7 @@ told-agree slot calls sent = agree-run slot nothing fresh calls sent fresh-shape
 
 -- ---- a report is a slot's rows
 
-row-in : (k n : ℕ)
-    → record { head = headOf k; site = siteOf k; bin = binOf k; count = n } ≡ rowOf (count (k % slotSpan) n)
+row-in : (k n : ℕ) → keyedRow k n ≡ rowOf (count (k % slotSpan) n)
 row-in k n =
     let head : headOf k ≡ headOf (k % slotSpan) = omega arith in
     let site : siteOf k ≡ siteOf (k % slotSpan) = omega arith in

@@ -3,19 +3,19 @@
 -- Assumes nothing.
 use mathlib.Core.Path.{_≡_, refl, ap, sym, _∙_}
 use mathlib.Core.Bool.{Bool, true, false, cond, _&&_, false≢true}
-use mathlib.Core.List.{List, [], _∷_}
+use mathlib.Core.List.{List, [], _∷_, _++_}
 use Prim.Native.Nat.{ℕ, zero, suc, _+_, _≤_, _<_, min}
 use native.Mathlib.Nat.{zero-add}
 use native.Mathlib.Omega.{arith}
-use borrow.Author.Tests.{le-leb, lt-leb, leb-true, lt-ltb, le-ltb, ltb-true}
+use borrow.Author.Tests.{le-leb, lt-leb, leb-true, lt-ltb, le-ltb, ltb-true, ltb-false}
 use lib.Dec.{leb, ltb}
-use lib.ListN.{length, getD, take, set, length-set, length-take}
-use lib.Seq.{getD-take, length-take-le}
+use lib.ListN.{length, getD, set, length-set, length-take}
+use lib.Seq.{getD-take, getD-set-same, getD-set-other, length-take-le, set-append-left}
 use Rattle.words.specs.Choice.{_unless_then_}
 use Rattle.words.proofs.Both.{both-left, both-right}
 use Rattle.answers.specs.declared.Answer.the-variants.{Done, NoSuchSlot, SlotClosed, NotSound, OutputTooShort}
 use Rattle.rising.specs.Rising.{rising}
-use Rattle.rows.specs.Rows.{slotCount, slotOf, headOf, siteOf, binOf, heldBy, sumBy, rowsRight, slotRank}
+use Rattle.rows.specs.Rows.{slotCount, slotOf, heldBy, sumBy, rowsRight, slotRank}
 use Rattle.rows.proofs.Laws.{held-ranks, held-within, run-end, run-own, run-within, count-within}
 use Rattle.house.specs.declared.Slot.{Slot}
 use Rattle.house.specs.declared.House.{House}
@@ -23,7 +23,9 @@ use Rattle.house.specs.declared.Row.{Row}
 use Rattle.house.specs.declared.Reported.{Reported}
 use Rattle.house.specs.House.{rowCount, noSlot, keysOf, countsOf, takenOf, rowsSound, sound}
 use Rattle.house.specs.Calls.{slotAt}
-use Rattle.house.specs.Report.{rowAt, rowsOf, unreported, reported, filled}
+use Rattle.house.specs.Deliver.{pastCounts}
+use Rattle.house.specs.Report.{keyedRow, rowAt, rowsOf, rowsFrom, unreported, reported, filled}
+use Rattle.house.specs.Report.{noRows, listing}
 use Rattle.house.proofs.Calling.{OpenSlot, open-told, slots-at, told-within, told-rows, told-slots}
 
 -- ---- the answers
@@ -138,12 +140,33 @@ module _ (h : House) (slot i : ℕ) (row : i < rowsOf h slot) where
         ∙ row-slot .sum in
         omega (arith, part, sum, getD-take (h .used) (h .counts) at 0 row-used)
 
--- the row that stands there
-pub row-told : (h : House) (slot i at : ℕ) → at ≡ slotRank slot (keysOf h) + i
-    → let key = getD (h .keys) at 0 in
-    record { head = headOf key; site = siteOf key; bin = binOf key; count = getD (h .counts) at 0 } ≡ rowAt h slot i
-unfolding rowAt
-row-told h slot i at is = rw is
+-- ---- a report that reads its rows where they stand
+
+pub rows-begin : (h : House) (slot rows : ℕ) → 0 < rows → rowsFrom h slot rows ≡ slotRank slot (keysOf h)
+rows-begin h slot zero some = absurd (omega (arith, some))
+rows-begin h slot (suc n) some = refl
+
+module _ (h : House) (slot rows from i : ℕ) (held : rows ≤ rowsOf h slot) (low : i < rows)
+    (is : from ≡ rowsFrom h slot rows) where
+  stands : from + i ≡ slotRank slot (keysOf h) + i
+  stands = ap (λ (n : ℕ). n + i) (is ∙ rows-begin h slot rows (omega (arith, low)))
+
+  row : i < rowsOf h slot
+  row = omega (arith, held, low)
+
+  pub stands-within : length (h .keys) ≡ rowCount → from + i < rowCount
+  stands-within long =
+      omega (arith, stands, row-used h slot i row long, told-within h (row-fine h slot i row))
+
+  -- its count fits: the slot's results are at most 4,294,967,295
+  pub stands-low : length (h .keys) ≡ rowCount → length (h .counts) ≡ rowCount
+      → getD (h .counts) (from + i) 0 < pastCounts
+  stands-low long paired =
+      rw stands (omega (arith, row-count h slot i row long paired, row-slot h slot i row .few))
+
+  pub stands-told : keyedRow (getD (h .keys) (from + i) 0) (getD (h .counts) (from + i) 0) ≡ rowAt h slot i
+  unfolding rowAt
+  stands-told = rw stands
 
 -- ---- how many rows are written: no more than there are, nor than the slice is long
 
@@ -181,8 +204,78 @@ rows-few h slot = go (sound h) (ltb slot slotCount && slotAt h slot .taken) refl
         let short : length (keysOf h) ≡ min (h .used) (length (h .keys)) = length-take (h .used) (h .keys) in
         omega (arith, told-within h e, held-within slot (keysOf h), short)
 
+-- .. so that a slice of 1,024 is as good as any longer one
+reported-capped : (h : House) (slot long : ℕ) → rowCount ≤ long → reported h slot rowCount ≡ reported h slot long
+unfolding reported
+reported-capped h slot long wide = go (sound h) refl
+  where
+    rest : Bool → Reported
+    rest room =
+        unreported NoSuchSlot unless ltb slot slotCount then
+        unreported SlotClosed unless slotAt h slot .taken then
+        unreported OutputTooShort unless room then
+        record { answer = Done; rows = heldBy slot (keysOf h) }
+
+    go : (fine : Bool) → sound h ≡ fine
+        → (unreported NotSound unless fine then rest (leb (heldBy slot (keysOf h)) rowCount))
+        ≡ (unreported NotSound unless fine then rest (leb (heldBy slot (keysOf h)) long))
+    go false e = refl
+    go true e =
+        let short : length (keysOf h) ≡ min (h .used) (length (h .keys)) = length-take (h .used) (h .keys) in
+        let low : heldBy slot (keysOf h) ≤ rowCount =
+        omega (arith, told-within h e, held-within slot (keysOf h), short) in
+        ap rest
+        (le-leb (heldBy slot (keysOf h)) rowCount low
+        ∙ sym (le-leb (heldBy slot (keysOf h)) long (omega (arith, low, wide))))
+
 -- ---- a slice filled
 
 pub length-filled : (row : ℕ → Row) (n : ℕ) (old : List Row) → length (filled row n old) ≡ length old
 length-filled row zero old = refl
 length-filled row (suc i) old = length-set (filled row i old) i (row i) ∙ length-filled row i old
+
+pub filled-at : (row : ℕ → Row) (n : ℕ) (old : List Row) (i : ℕ) (d : Row) → n ≤ length old → i < n
+    → getD (filled row n old) i d ≡ row i
+filled-at row zero old i d room low = absurd (omega (arith, low))
+filled-at row (suc n) old i d room low =
+    go (ltb i n) refl (λ less. filled-at row n old i d (omega (arith, room)) less)
+  where
+    go : (t : Bool) → ltb i n ≡ t → (i < n → getD (filled row n old) i d ≡ row i)
+        → getD (set (filled row n old) n (row n)) i d ≡ row i
+    go true e earlier =
+        let less : i < n = ltb-true i n e in
+        getD-set-other (filled row n old) n i (row n) d (λ same. omega (arith, same, less)) ∙ earlier less
+    go false e earlier =
+        let last : i ≡ n = omega (arith, ltb-false i n e, low) in
+        rw last (getD-set-same (filled row n old) n (row n) d (omega (arith, room, length-filled row n old)))
+
+-- .. it is filled as far as it is written, whatever stands behind
+pub filled-front : (row : ℕ → Row) (n : ℕ) (old rest : List Row) → n ≤ length old
+    → filled row n old ++ rest ≡ filled row n (old ++ rest)
+filled-front row zero old rest few = refl
+filled-front row (suc i) old rest few =
+    sym (set-append-left (filled row i old) rest i (row i) (omega (arith, length-filled row i old)))
+    ∙ ap (λ (l : List Row). set l i (row i)) (filled-front row i old rest (omega (arith, few)))
+
+-- ---- a report by value
+
+pub listing-capped : (h : House) (slot long : ℕ) → rowCount ≤ long → listing h slot rowCount ≡ listing h slot long
+unfolding listing
+listing-capped h slot long wide =
+    ap (λ (r : Reported). record { reported = r; rows = filled (rowAt h slot) (r .rows) noRows })
+    (reported-capped h slot long wide)
+
+module _ (h : House) (slot long : ℕ) where
+  pub listing-reported : listing h slot long .reported ≡ reported h slot long
+  unfolding listing
+  listing-reported = refl
+
+  pub listing-few : listing h slot long .reported .rows ≤ rowCount
+  unfolding listing
+  listing-few = omega (arith, few h slot long .0, rows-few h slot)
+
+  pub listing-at : (i : ℕ) (d : Row) → i < listing h slot long .reported .rows
+      → getD (listing h slot long .rows) i d ≡ rowAt h slot i
+  unfolding listing
+  listing-at i d low =
+      filled-at (rowAt h slot) (reported h slot long .rows) noRows i d (omega (arith, listing-few)) low

@@ -15,11 +15,12 @@ use lib.ListN.{length}
 use Rattle.answers.specs.Numbers.{numberOf}
 use Rattle.numbers.specs.declared.Order.{Order}
 use Rattle.numbers.specs.declared.Order.the-variants.{HighFirst}
-use Rattle.rows.specs.Rows.{slotCount, headOf, siteOf, binOf}
+use Rattle.rows.specs.Rows.{slotCount}
 use Rattle.rows.specs.Counts.{Count, plus}
 use Rattle.session.specs.Results.{Result, None, Part, resultOf, orderIn}
 use Rattle.house.specs.declared.Row.{Row}
 use Rattle.house.specs.House.{rowCount}
+use Rattle.house.specs.Report.{keyedRow}
 use Rattle.house.specs.History.{Call, Open, Deliver, Report, Close, Figured, Said, answerOf, names}
 
 pub record Heard : Type 0 where
@@ -72,7 +73,7 @@ abbrev pub toldOf : ℕ → List Said → Heard
 toldOf slot es = heardFrom slot es nothing
 
 abbrev pub rowOf : Count → Row
-rowOf c = record { head = headOf (c .key); site = siteOf (c .key); bin = binOf (c .key); count = c .count }
+rowOf c = keyedRow (c .key) (c .count)
 
 abbrev pub tallied : ℕ → List Said → List Row
 tallied slot es = map rowOf (toldOf slot es .rows)

@@ -69,6 +69,12 @@ pub struct Reported {
     pub rows: usize,
 }
 
+// A report by value: its rows are the first of 1,024.
+pub struct Listing {
+    pub reported: Reported,
+    pub rows: [Row; 1024],
+}
+
 impl Slot {
     pub fn closed() -> Slot
         ensures { λ r. ⌜ r ≡ closedSlot ⌝ }

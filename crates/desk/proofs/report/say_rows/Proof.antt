@@ -1,4 +1,4 @@
--- `desk::report::say_rows` ends, and asks only for rows that there are.
+-- `desk::report::say_rows` ends, and reads only rows that there are.
 -- Assumes nothing.
 use Prim.Native.Nat.{_-_, _≤_}
 use borrow.Author.Needs.{needs}
@@ -6,18 +6,30 @@ use Rattle.desk.proofs.report.say_rows.Statement.{statement}
 use Rattle.desk.proofs.report.say_rows.Tie as tie
 
 abbrev Inv-loop : tie.InvT-loop
-Inv-loop house slot rows i₀ i = i ≤ rows
+Inv-loop rows list i₀ i = i ≤ rows
 
 abbrev μ-loop : tie.MeasureT-loop
-μ-loop house slot rows i₀ i = rows - i
+μ-loop rows list i₀ i = rows - i
 
 -- ---- found by search
+
+slice-aggregate-say : tie.Need-slice-aggregate-say Inv-loop μ-loop
+slice-aggregate-say c = search needs
+
+say-requires : tie.Need-say-requires Inv-loop μ-loop
+say-requires c κs = search needs
+
+print-decimal-requires : tie.Need-print-decimal-requires Inv-loop μ-loop
+print-decimal-requires c κs = search needs
 
 loop-holds : tie.Need-loop-holds Inv-loop μ-loop
 loop-holds c = search needs
 
-row-at-requires : tie.Need-row-at-requires Inv-loop μ-loop
-row-at-requires c κs = search needs
+mul-say-row : tie.Need-mul-say-row Inv-loop μ-loop
+mul-say-row c = search needs
+
+element-copy-out-say-row : tie.Need-element-copy-out-say-row Inv-loop μ-loop
+element-copy-out-say-row c = search needs
 
 say-row-requires : tie.Need-say-row-requires Inv-loop μ-loop
 say-row-requires c κs = search needs
@@ -40,8 +52,12 @@ say-rows-spec =
     (tie.spec
     Inv-loop
     μ-loop
+    slice-aggregate-say
+    say-requires
+    print-decimal-requires
     loop-holds
-    row-at-requires
+    mul-say-row
+    element-copy-out-say-row
     say-row-requires
     add-i
     loop-less

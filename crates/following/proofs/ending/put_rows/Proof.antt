@@ -1,61 +1,80 @@
 -- `following::ending::put_rows` meets its contract: line after line, each behind the last, as a report has the rows.
 -- Assumes nothing.
-use mathlib.Core.Path.{_≡_, ap, _∙_}
-use Prim.Native.Nat.{_-_, _≤_}
+use mathlib.Core.Path.{_≡_, ap, sym, subst, _∙_}
+use Prim.Native.Nat.{ℕ, _-_, _≤_, _<_}
 use native.Mathlib.Omega.{arith}
+use lib.ListN.{getD}
 use borrow.Author.Needs.{needs}
+use Rattle.house.specs.declared.House.{House}
+use Rattle.house.specs.declared.Listing.{Listing}
 use Rattle.house.specs.declared.Reported.{Reported}
-use Rattle.house.specs.Report.{rowsOf, reported}
-use Rattle.house.proofs.Reporting.{few}
+use Rattle.house.specs.declared.Row.{Row}
+use Rattle.house.specs.Report.{rowAt, reported, listing}
+use Rattle.house.proofs.Reporting.{listing-reported, listing-few, listing-at}
 use Rattle.following.specs.Saying.{Lined}
 use Rattle.following.proofs.Texts.{lined-none, lined-on, lined-put}
 use Rattle.following.proofs.ending.put_rows.Statement.{statement}
 use Rattle.following.proofs.ending.put_rows.Tie as tie
 
+-- the loop knows the listing, and of its house only that it has that listing
 abbrev Inv-loop : tie.InvT-loop
-Inv-loop out₀ h rows at₀ i₀ out at i = (i ≤ rows) × Lined h out₀ i out at
+Inv-loop out₀ list rows at₀ i₀ out at i =
+    (i ≤ rows) × ((h : House) → list ≡ listing h 0 1024 → Lined h out₀ i out at)
 
 abbrev μ-loop : tie.MeasureT-loop
-μ-loop out₀ h rows at₀ i₀ out at i = rows - i
+μ-loop out₀ list rows at₀ i₀ out at i = rows - i
 
-told : (c : tie.After-judge-report Inv-loop μ-loop)
-    → (c .judge-report .result .rows ≤ rowsOf (c .before .before .args .h) 0) × (c .judge-report .result .rows ≤ 1024)
-told c = rw (c .judge-report .ensures) (few (c .before .before .args .h) 0 1024)
+told : (c : tie.After-list-rows Inv-loop μ-loop) → c .list-rows .result .reported .rows ≤ 1024
+told c = rw (c .list-rows .ensures) (listing-few (c .before .before .args .h) 0 1024)
 
-judge-report-requires : tie.Need-judge-report-requires Inv-loop μ-loop
-judge-report-requires c κs = search needs
+row-listed : (h : House) (list : Listing) → list ≡ listing h 0 1024 → (i : ℕ) (d : Row)
+    → i < list .reported .rows → getD (list .rows) i d ≡ rowAt h 0 i
+row-listed h list is i d =
+    subst (λ (l : Listing). i < l .reported .rows → getD (l .rows) i d ≡ rowAt h 0 i) (sym is) (listing-at h 0 1024 i d)
+
+-- what stands written before a turn, and when the rows are at an end
+so-far : (c : tie.At-loop Inv-loop μ-loop)
+    → Lined (c .before .before .before .before .args .h) (c .before .before .before .before .args .out .now)
+    (c .loop .i) (c .loop .out) (c .loop .at)
+so-far c = c .loop .inv .1 (c .before .before .before .before .args .h) (c .before .before .list-rows .ensures)
 
 loop-holds : tie.Need-loop-holds Inv-loop μ-loop
-loop-holds c = (omega arith, lined-none _ _)
+loop-holds c = (omega arith, λ h is. lined-none _ _)
 
-row-at-requires : tie.Need-row-at-requires Inv-loop μ-loop
-row-at-requires c κs =
-    omega (arith, told (c .before .before .before) .0, c .before .loop-test .taken)
+element-copy-out-put-row : tie.Need-element-copy-out-put-row Inv-loop μ-loop
+element-copy-out-put-row c = omega (arith, told (c .before .before .before .before), c .before .loop-test .taken)
+
+mul-put-row : tie.Need-mul-put-row Inv-loop μ-loop
+mul-put-row c = omega (arith, told (c .before .before .before .before), c .before .loop-test .taken)
 
 put-row-requires : tie.Need-put-row-requires Inv-loop μ-loop
 put-row-requires c κs =
     let inside = c .before .before in
-    let inv = inside .before .loop .inv .1 in
     omega (
       arith,
-      told (inside .before .before) .1,
+      told (inside .before .before .before),
       inside .loop-test .taken,
-      inv .few,
-      inv .long,
-      inside .before .before .before .before .pre,
+      so-far (inside .before) .few,
+      so-far (inside .before) .long,
+      inside .before .before .before .before .before .pre,
     )
 
 add-at : tie.Need-add-at Inv-loop μ-loop
 add-at c =
     let put = c .before .before in
     let inside = put .before .before .before in
-    let inv = inside .before .loop .inv .1 in
-    omega (arith, told (inside .before .before) .1, inside .loop-test .taken, inv .few, put .put-row .ensures .few)
+    omega (
+      arith,
+      told (inside .before .before .before),
+      inside .loop-test .taken,
+      so-far (inside .before) .few,
+      put .put-row .ensures .few,
+    )
 
 add-i : tie.Need-add-i Inv-loop μ-loop
 add-i c =
     let inside = c .before .before .before .before .before in
-    omega (arith, told (inside .before .before) .1, inside .loop-test .taken)
+    omega (arith, told (inside .before .before .before), inside .loop-test .taken)
 
 loop-less : tie.Need-loop-less Inv-loop μ-loop
 loop-less c =
@@ -65,23 +84,32 @@ loop-less c =
 loop-again : tie.Need-loop-again Inv-loop μ-loop
 loop-again c =
     let put = c .before .before in
-    let inside = put .before .before .before in
-    let inv = inside .before .loop .inv .1 in (
+    let inside = put .before .before .before in (
       omega (arith, inside .loop-test .taken),
-      lined-on _ _ _ _ _ _ _ _ (put .put-row .kept .0) (put .before .row-at .ensures) inv (put .put-row .ensures),
+      λ h is.
+          lined-on _ _ _ _ _ _ _ _ (put .put-row .kept .0) (row-listed h _ is _ _ (inside .loop-test .taken))
+          (inside .before .loop .inv .1 h is) (put .put-row .ensures),
     )
 
 same-length : tie.Need-same-length Inv-loop μ-loop
-same-length c = c .before .loop .inv .1 .long
+same-length c = so-far (c .before) .long
 
 returns : tie.Need-returns Inv-loop μ-loop
 returns c =
-    let inv = c .before .loop .inv in
-    let judged = c .before .before in
-    let all : c .before .loop .i ≡ reported (judged .before .before .args .h) 0 1024 .rows =
-    let whole : c .before .loop .i ≡ judged .judge-report .result .rows = omega (arith, inv .0, c .loop-test .left) in
-    whole ∙ ap (λ (r : Reported). r .rows) (judged .judge-report .ensures) in
-    lined-put _ _ _ _ _ (inv .1) all
+    let found = c .before .before .before in
+    let h = found .before .before .args .h in
+    let all : c .before .loop .i ≡ reported h 0 1024 .rows =
+    let whole : c .before .loop .i ≡ found .list-rows .result .reported .rows =
+    omega (arith, c .before .loop .inv .0, c .loop-test .left) in
+    whole
+    ∙ ap (λ (l : Listing). l .reported .rows) (found .list-rows .ensures)
+    ∙ ap (λ (r : Reported). r .rows) (listing-reported h 0 1024) in
+    lined-put _ _ _ _ _ (so-far (c .before)) all
+
+-- ---- found by search
+
+list-rows-requires : tie.Need-list-rows-requires Inv-loop μ-loop
+list-rows-requires c κs = search needs
 
 pub put-rows-spec : {M : Type 1} → statement M
 put-rows-spec =
@@ -89,9 +117,10 @@ put-rows-spec =
     (tie.spec
     Inv-loop
     μ-loop
-    judge-report-requires
+    list-rows-requires
     loop-holds
-    row-at-requires
+    mul-put-row
+    element-copy-out-put-row
     put-row-requires
     add-at
     add-i
