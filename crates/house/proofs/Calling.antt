@@ -2,20 +2,20 @@
 -- tests before it, in the order of the checks.
 -- Assumes nothing.
 use mathlib.Core.Path.{_≡_, refl, ap, sym, _∙_}
-use mathlib.Core.Bool.{Bool, true, false, not, _&&_}
+use mathlib.Core.Bool.{Bool, true, false, _&&_}
 use mathlib.Core.List.{List, [], _∷_}
 use Prim.Native.Nat.{ℕ, zero, suc, _+_, _-_, _≤_, _<_}
 use native.Mathlib.Nat.{add-zero, zero-add}
 use native.Mathlib.Omega.{arith}
-use borrow.Author.Tests.{le-leb, lt-leb, lt-ltb, le-ltb, leb-true, ltb-true, eqb-true}
-use lib.Dec.{leb, ltb, eqb}
-use lib.ListN.{length, getD, take, set, List·getD-map}
+use borrow.Author.Tests.{le-leb, lt-leb, lt-ltb, le-ltb, leb-true, eqb-true}
+use lib.Dec.{leb, eqb}
+use lib.ListN.{length, getD, set, List·getD-map}
 use lib.Seq.{length-take-le}
 use Rattle.words.proofs.Both.{both-left, both-right}
 use Rattle.answers.specs.declared.Answer.{Answer}
 use Rattle.answers.specs.declared.Answer.the-variants as answer
 use Rattle.rising.specs.Rising.{rising, allBelow}
-use Rattle.rows.specs.Rows.{slotCount, mostHead, mostBin, slotOf, headOf, binOf, heldBy, sumBy, rowRight, rowsRight}
+use Rattle.rows.specs.Rows.{slotCount, slotOf, heldBy, sumBy, rowRight, rowsRight}
 use Rattle.rows.specs.Rows.{slotDropped, Rows, rows}
 use Rattle.rows.proofs.Laws.{count-within, row-taken}
 use Rattle.session.specs.Session as session
@@ -27,14 +27,12 @@ use Rattle.session.proofs.Judgement.{sound-kept}
 use Rattle.house.specs.declared.Slot.{Slot}
 use Rattle.house.specs.declared.House.{House}
 use Rattle.house.specs.declared.Room.{Room}
-use Rattle.house.specs.declared.Answered.{Answered}
-use Rattle.house.specs.declared.Figures.{Figures}
 use Rattle.house.specs.House.{rowCount, noSlot, closedSlot, openedSlot, keysOf, countsOf, free, unfilled}
 use Rattle.house.specs.House.{promisedFrom}
 use Rattle.house.specs.House.{promised, takenOf, rowsSound, slotSound, slotsSound, sound, Lent}
-use Rattle.house.specs.Deliver.{Outcome, core, settled, delivered, wantsRow, plainAnswer, pastCounts, LentRows}
+use Rattle.house.specs.Deliver.{Outcome, core, delivered, wantsRow, plainAnswer, pastCounts}
 use Rattle.house.specs.Deliver.{LentCore}
-use Rattle.house.specs.Calls.{slotAt, withSlot, answered, openSlot, closed, closeSlot, roomOf, deliveredTo}
+use Rattle.house.specs.Calls.{slotAt, withSlot, answered, openSlot, closeSlot, roomOf, deliveredTo}
 use Rattle.house.specs.Calls.{withOutcome, deliver, figuresOf}
 use Rattle.house.proofs.Laws.{lent-of}
 use Rattle.house.proofs.Delivering.{settled-plain}

@@ -1,7 +1,7 @@
 -- Laws of a delivery over lent rows, as the functions' proofs cite them.
 -- Assumes nothing.
-use mathlib.Core.Path.{_≡_, refl, ap, sym, subst, _∙_}
-use mathlib.Core.Bool.{Bool, true, false, cond, _||_, true≢false}
+use mathlib.Core.Path.{_≡_, refl, ap}
+use mathlib.Core.Bool.{Bool, true, false, _||_, true≢false}
 use mathlib.Core.List.{List, [], _∷_}
 use Prim.Native.Nat.{ℕ, zero, suc, _+_, _-_, _≤_, _<_}
 use native.Mathlib.Omega.{arith}
@@ -12,7 +12,7 @@ use lib.Seq.{getD-take, length-take-le}
 use Rattle.words.proofs.Both.{both-left, both-right}
 use Rattle.answers.specs.declared.Answer.{Answer}
 use Rattle.answers.specs.declared.Answer.the-variants as answer
-use Rattle.rising.specs.Rising.{rising, rank, held, allBelow}
+use Rattle.rising.specs.Rising.{rank, held, allBelow}
 use Rattle.rising.proofs.Laws.{held-rank}
 use Rattle.rows.specs.Rows.{heldBy, rowKey, Rows, rows, counted, Countable}
 use Rattle.session.specs.declared.Session.{Session}
@@ -24,8 +24,8 @@ use Rattle.session.specs.After.{partOpened, partClosed, after}
 use Rattle.house.specs.declared.Room.{Room}
 use Rattle.house.specs.declared.Granting.{Granting}
 use Rattle.house.specs.declared.Granting.the-variants as granting
-use Rattle.house.specs.House.{rowCount, Lent}
-use Rattle.house.specs.Deliver.{granted, rowed, rowTaken, core, outcome, resulted, resultedIf, settled, delivered}
+use Rattle.house.specs.House.{rowCount}
+use Rattle.house.specs.Deliver.{granted, rowed, rowTaken, core, outcome, resultedIf, settled, delivered}
 use Rattle.house.specs.Deliver.{Core, wantsRow, plainAnswer, cellOf, noted, guessed, pastCounts, LentRows}
 use Rattle.house.proofs.Laws.{lent-kept}
 

@@ -1,16 +1,16 @@
 -- LendingCore and LendingKept of specs/Laws.antt, proved: what a loop of deliveries over lent rows keeps.
 -- Assumes nothing.
-use mathlib.Core.Path.{_≡_, refl, ap, sym, _∙_}
-use mathlib.Core.Bool.{Bool, true, false, cond, _||_}
+use mathlib.Core.Path.{_≡_, refl, _∙_}
+use mathlib.Core.Bool.{Bool, true, false, _||_}
 use mathlib.Core.List.{List, [], _∷_}
-use Prim.Native.Nat.{ℕ, zero, suc, _+_, _-_, _*_, _/_, _%_, _≤_, _<_}
+use Prim.Native.Nat.{ℕ, zero, suc, _+_, _-_, _≤_, _<_}
 use native.Mathlib.Omega.{arith}
 use borrow.Author.Tests.{lt-ltb, ltb-true, ltb-false, eq-eqb}
-use lib.Dec.{ltb, eqb}
+use lib.Dec.{ltb}
 use lib.ListN.{length, getD, take, set}
 use lib.Seq.{length-take-le}
 use Rattle.words.proofs.Both.{both-left, both-right}
-use Rattle.rising.specs.Rising.{rank, held, allBelow, inserted}
+use Rattle.rising.specs.Rising.{rank, held, allBelow}
 use Rattle.rising.proofs.Laws.{rank-within, held-rank, below-insert}
 use Rattle.rows.specs.Rows.{slotOf, rowKey, heldBy, Kept, Rows, counted, keysUsed, countsUsed}
 use Rattle.rows.proofs.Changes.{counted-length, counted-used, counted-kept, counted-held-by, counted-more, counted-new}
@@ -22,11 +22,11 @@ use Rattle.session.specs.declared.Verdict.the-variants.{Refused, Taken, Opened,
 use Rattle.session.specs.Laws.{KeyRight}
 use Rattle.session.specs.After.{after, verdictOn}
 use Rattle.session.specs.Session as session
-use Rattle.session.specs.Session.{mostOpen, pastParts}
+use Rattle.session.specs.Session.{mostOpen}
 use Rattle.session.proofs.Judgement.{sound-kept, judged-sound, judged-key, judged-long}
 use Rattle.house.specs.declared.Room.{Room}
 use Rattle.house.specs.House.{rowCount}
-use Rattle.house.specs.Deliver.{Core, core, granted, rowTaken, resulted, resultedIf, settled, delivered}
+use Rattle.house.specs.Deliver.{Core, core, granted, rowTaken, resultedIf, settled, delivered}
 use Rattle.house.specs.Deliver.{pastCounts, LentRows}
 use Rattle.house.specs.Laws.{Lending, LendingCore, LendingKept}
 use Rattle.house.proofs.Laws.{lent-kept}

@@ -1,7 +1,7 @@
 -- What a call does to the slot that it names, and that it leaves every other as it was: the step of every argument
 -- over sequences of calls. Of a house, a slot is what stands in its place and its rows as a list.
 -- Assumes nothing.
-use mathlib.Core.Path.{_≡_, refl, ap, sym, subst, _∙_}
+use mathlib.Core.Path.{_≡_, refl, sym, subst, _∙_}
 use mathlib.Core.Bool.{Bool, true, false, cond, not}
 use mathlib.Core.List.{List, []}
 use Prim.Native.Nat.{ℕ, _-_, _%_, _<_}

@@ -10,7 +10,7 @@ use mathlib.Core.Path.{_≡_}
 use mathlib.Core.Bool.{Bool, true, false, cond, _&&_}
 use mathlib.Core.List.{List, [], _∷_, map}
 use lib.Dec.{leb, eqb}
-use lib.ListN.{length, take, getD, replicate}
+use lib.ListN.{length, take, replicate}
 use Rattle.rising.specs.Rising.{rising}
 use Rattle.rows.specs.Rows.{slotCount, heldBy, sumBy, rowsRight}
 use Rattle.session.specs.Session as session

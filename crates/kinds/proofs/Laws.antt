@@ -1,21 +1,21 @@
 -- The statement of specs/Laws.antt, proved by one computed test over the table; and how the searches of the code go
 -- on.
 -- Assumes nothing.
-use mathlib.Core.Path.{_≡_, refl, sym, ap, _∙_}
+use mathlib.Core.Path.{_≡_, refl}
 use mathlib.Core.Bool.{Bool, true, false, _&&_}
-use mathlib.Core.List.{List, [], _∷_, map}
+use mathlib.Core.List.{List, map}
 use Prim.Native.Nat.{ℕ, _≤_, _<_, _+_, _*_}
 use native.Mathlib.Numerals.{add-one}
 use native.Mathlib.Omega.{arith}
 use borrow.Author.Tests.{eq-eqb, ne-eqb, eqb-true, lt-ltb, le-ltb}
 use lib.Dec.{eqb}
-use lib.ListN.{length, drop, getD, drop-of-length-le, List·getD-map}
+use lib.ListN.{length, drop, getD, drop-of-length-le}
 use lib.Seq.{drop-cons}
 use Rattle.words.proofs.Table.{at-each}
 use Rattle.kinds.specs.declared.Pair.{Pair}
 use Rattle.kinds.specs.declared.Kind.{Kind}
 use Rattle.kinds.specs.declared.Kind.the-variants.{Custom, Unknown}
-use Rattle.kinds.specs.Kinds.{pairs, noPair, named, hasType, custom, beyondTable, kindOf}
+use Rattle.kinds.specs.Kinds.{pairs, noPair, named, hasType, beyondTable, kindOf}
 use Rattle.kinds.specs.Laws.{EachPairItsKind}
 
 -- ---- the table

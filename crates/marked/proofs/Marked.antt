@@ -1,6 +1,6 @@
 -- The table of specs/Marked.antt, by computation.
 -- Assumes nothing.
-use mathlib.Core.Path.{_≡_, refl}
+use mathlib.Core.Path.{refl}
 use Rattle.house.specs.House.{sound, rowsSound, slotsSound, slotSound, promisedFrom, unfilled}
 use Rattle.house.specs.Deliver.{granted, rowTaken, resultedIf, settled, delivered}
 use Rattle.house.specs.Calls.{openSlot, closeSlot, deliver}

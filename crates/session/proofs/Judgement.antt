@@ -4,12 +4,12 @@
 use mathlib.Core.Path.{_≡_, refl, ap, sym, subst, _∙_}
 use mathlib.Core.Bool.{Bool, true, false, cond, not, _&&_, false≢true}
 use mathlib.Core.List.{List, [], _∷_}
-use Prim.Native.Nat.{ℕ, _+_, _-_, _*_, _/_, _%_, _≤_, _<_}
+use Prim.Native.Nat.{ℕ, _+_, _-_, _≤_, _<_}
 use native.Mathlib.Numerals.{add-one}
 use native.Mathlib.Omega.{arith}
-use borrow.Author.Tests.{ltb-true, leb-true, eqb-true, not-true, le-leb, eq-eqb}
+use borrow.Author.Tests.{ltb-true, leb-true, not-true, le-leb}
 use lib.Dec.{eqb, leb, ltb}
-use lib.ListN.{length, getD, take, drop}
+use lib.ListN.{length, take}
 use lib.Seq.{getD-drop, length-take-le}
 use Rattle.words.specs.Choice.{_unless_then_}
 use Rattle.words.specs.Checks.{_else_, numberBy}
@@ -44,19 +44,19 @@ use Rattle.order.specs.declared.Step.the-variants.{To, OutOfPlace}
 use Rattle.order.specs.Order.{goes, inPlace, placeAfter}
 use Rattle.order.specs.Laws.{before, ended, opening}
 use Rattle.order.proofs.Laws.{before-by-opening, ended-by-mrr, never-back, never-start}
-use Rattle.rising.specs.Rising.{risingFrom, rising, rank, held, allBelow, inserted, removed, insertAt, removeAt}
+use Rattle.rising.specs.Rising.{risingFrom, rising, rank, held, allBelow, insertAt, removeAt}
 use Rattle.rising.proofs.Laws.{rank-within, held-rank, rising-insert, rising-remove, below-insert, below-remove}
 use Rattle.rising.proofs.Laws.{insert-taken, insert-length, remove-taken, remove-length}
 use Rattle.session.specs.declared.Session.{Session}
 use Rattle.session.specs.declared.Standing.{Standing}
 use Rattle.session.specs.declared.Verdict.{Verdict}
 use Rattle.session.specs.declared.Verdict.the-variants.{Refused, Taken, Opened, Wanted}
-use Rattle.session.specs.Session.{mostOpen, mostResults, partOf, keyOf, pastParts, partsOf, isStart, begun}
-use Rattle.session.specs.Session.{nothingYet, standsRight, partsRight, sound, Kept}
+use Rattle.session.specs.Session.{mostOpen, mostResults, partOf, keyOf, pastParts, partsOf, isStart}
+use Rattle.session.specs.Session.{nothingYet, standsRight, partsRight, sound}
 use Rattle.session.specs.Judge.{inOrder, judgeIn, judgeOrdered, judgeFirst, at, withPcr, withPart, withResult}
 use Rattle.session.specs.Judge.{judgePir, judgePrr, judgeMrr, judgeSaid, judgeLater, judge}
-use Rattle.session.specs.After.{after, verdictOn}
-use Rattle.session.specs.Results.{Result, None, Part, resultIn, resultRead, resultOf, ordered, orderIn, ofRecord}
+use Rattle.session.specs.After.{after}
+use Rattle.session.specs.Results.{None, resultIn, resultRead, resultOf, ordered, orderIn, ofRecord}
 use Rattle.session.specs.Results.{verdictNumber}
 use Rattle.session.specs.Laws.{counted, Within, KeyRight, SoundKept, JudgedWithin, JudgedSound, JudgedCounts}
 use Rattle.session.specs.Laws.{JudgedFew, JudgedKey, JudgedLong, BegunSound, Begins, Tells, JudgedBegins}

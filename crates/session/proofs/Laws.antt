@@ -1,27 +1,25 @@
 -- Laws of the judgement as the functions' proofs cite them: one an answer, each under the tests before it, in the
 -- order of the checks.
 -- Assumes nothing.
-use mathlib.Core.Path.{_≡_, refl, ap, sym, subst, _∙_}
-use mathlib.Core.Bool.{Bool, true, false, not, _&&_}
+use mathlib.Core.Path.{_≡_, subst}
+use mathlib.Core.Bool.{true, false, _&&_}
 use mathlib.Core.List.{List}
 use Prim.Native.Nat.{ℕ, zero, suc, _+_, _-_, _≤_, _<_}
 use native.Mathlib.Omega.{arith}
 use borrow.Author.Tests.{le-leb, lt-leb, lt-ltb, le-ltb, eq-eqb, ne-eqb}
 use lib.Dec.{eqb, ltb}
-use lib.ListN.{length, getD, take, drop}
+use lib.ListN.{length, getD, take}
 use lib.Seq.{getD-drop, getD-take, length-take-le}
 use Rattle.answers.specs.declared.Answer.the-variants as answer
 use Rattle.numbers.specs.declared.Order.{Order}
 use Rattle.numbers.specs.Orders.{orderOf}
 use Rattle.kinds.specs.declared.Kind.{Kind}
 use Rattle.kinds.specs.Kinds.{kindOf, known}
-use Rattle.frames.specs.Frames.{header, recLen, recTyp, recSub, body, isRecord}
+use Rattle.frames.specs.Frames.{recLen, recTyp, recSub, body, isRecord}
 use Rattle.bodies.specs.declared.Record.{Record}
-use Rattle.bodies.specs.declared.Reading.{Reading}
 use Rattle.bodies.specs.declared.Reading.the-variants.{Fits, Misfit}
 use Rattle.bodies.specs.Bodies.{readBody}
 use Rattle.order.specs.declared.Place.{Place}
-use Rattle.order.specs.declared.Step.{Step}
 use Rattle.order.specs.declared.Step.the-variants.{To, OutOfPlace}
 use Rattle.order.specs.Order.{goes}
 use Rattle.rising.specs.Rising.{risingFrom, rising, rank, held, allBelow}
@@ -29,7 +27,6 @@ use Rattle.rising.proofs.Laws.{below-last}
 use Rattle.session.specs.declared.Session.{Session}
 use Rattle.session.specs.declared.Standing.{Standing}
 use Rattle.session.specs.declared.Verdict.{Verdict}
-use Rattle.session.specs.declared.Judged.{Judged}
 use Rattle.session.specs.declared.Verdict.the-variants.{Refused, Taken, Opened, Wanted}
 use Rattle.session.specs.Session.{mostOpen, mostResults, pastParts, isStart, nothingYet, standsRight}
 use Rattle.session.specs.Session.{partsRight, sound, Kept}

@@ -9,7 +9,6 @@ use mathlib.Core.List.{List}
 use Rattle.answers.specs.declared.Answer.the-variants.{NotSound}
 use Rattle.rising.specs.Rising.{insertAt, removeAt}
 use Rattle.session.specs.declared.Session.{Session}
-use Rattle.session.specs.declared.Standing.{Standing}
 use Rattle.session.specs.declared.Verdict.{Verdict}
 use Rattle.session.specs.declared.Verdict.the-variants.{Refused, Taken, Opened, Wanted}
 use Rattle.session.specs.declared.Judged.{Judged}

@@ -1,11 +1,11 @@
 -- `kinds::searched` meets its contract: the entries that are passed are other pairs.
 -- Assumes nothing.
 use mathlib.Core.Path.{_≡_, refl, sym, _∙_}
-use Prim.Native.Nat.{_≤_, _<_, _-_}
+use Prim.Native.Nat.{_≤_, _-_}
 use native.Mathlib.Omega.{arith}
 use borrow.Author.Needs.{needs}
-use lib.ListN.{length, drop, getD}
-use Rattle.kinds.specs.Kinds.{pairs, noPair, named, beyondTable, kindOf}
+use lib.ListN.{drop}
+use Rattle.kinds.specs.Kinds.{pairs, named, beyondTable, kindOf}
 use Rattle.kinds.proofs.Laws.{named-none, named-here, named-on}
 use Rattle.kinds.proofs.searched.Statement.{statement}
 use Rattle.kinds.proofs.searched.Tie as tie

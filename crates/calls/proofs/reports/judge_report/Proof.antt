@@ -1,12 +1,10 @@
-use mathlib.Core.Path.{_≡_, ap, sym, _∙_}
+use mathlib.Core.Path.{_≡_, sym, _∙_}
 use mathlib.Core.Bool.{true}
-use Prim.Native.Nat.{_<_}
 use native.Mathlib.Omega.{arith}
 use lib.ListN.{length}
 use borrow.Author.Needs.{needs}
 use borrow.Author.Tests.{not-true, not-false}
 use Rattle.house.specs.House.{sound}
-use Rattle.house.specs.Calls.{slotAt}
 use Rattle.house.proofs.Reporting.{report-unsound, report-no-slot, report-closed, report-short, report-done}
 use Rattle.house.proofs.Calling.{told-within}
 use Rattle.house.proofs.Reporting.{told-rises}
