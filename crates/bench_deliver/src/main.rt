@@ -1,34 +1,17 @@
 // Delivers one record a hundred thousand times to a house with 1,000 rows held, by value: what a call costs.
 // The record is a PTR, whose body is not read: nearly every record of a real lot. It prints the last figures.
+use handmade::rising_keys;
+use handmade::standing;
 use house::Figures;
 use house::House;
 use house::Slot;
-use numbers::Order;
 use order::Place;
 use session::Session;
-use session::Standing;
 
 const TURNS: u64 = 100000;
 
-// Head 0 and site 0, each with the next bin: keys of slot 0.
-fn rising_keys() -> [u64; 1024] {
-    let mut keys = [0u64; 1024];
-    let mut i: usize = 0;
-    while i < 1024 {
-        keys[i] = i as u64;
-        i += 1;
-    }
-    keys
-}
-
 fn held() -> House {
-    let standing = Standing {
-        place: Place::Body,
-        order: Order::LowFirst,
-        opened: 0,
-        pcr: false,
-        results: 1000,
-    };
+    let standing = standing(Place::Body, 0, false, 1000);
     let session = Session {
         standing,
         parts: [0u64; 32],

@@ -3,10 +3,9 @@
 // fits, all zeros but for the FAR's. No part is open; in the body and behind the MRR a PCR was accepted. Held to the
 // file stdout.
 use answers::number;
-use numbers::Order;
+use handmade::standing;
 use order::Place;
 use session::Session;
-use session::Standing;
 use session::Verdict;
 use session::judge_record;
 
@@ -35,14 +34,7 @@ fn in_body(place: Place) -> bool {
 }
 
 fn session_at(place: Place) -> Session {
-    let order = Order::LowFirst;
-    let standing = Standing {
-        place,
-        order,
-        opened: 0,
-        pcr: in_body(place),
-        results: 0,
-    };
+    let standing = standing(place, 0, in_body(place), 0);
     Session {
         standing,
         parts: [0; 32],

@@ -5,14 +5,14 @@ use crate::build::cells;
 use crate::build::closed;
 use crate::build::house_of;
 use crate::build::open;
-use crate::build::rising_keys;
 use crate::build::slot;
-use crate::build::standing;
-use crate::build::two_parts;
 use crate::build::with_rows;
 use crate::line::line;
 use crate::line::line_result;
 use crate::text::say;
+use handmade::rising_keys;
+use handmade::standing;
+use handmade::two_parts;
 use house::House;
 use order::Place;
 
