@@ -7,6 +7,9 @@ use house::House;
 use house::Slot;
 use order::Place;
 use session::Session;
+use telling::say;
+use telling::say_answer;
+use telling::say_number;
 
 const TURNS: u64 = 100000;
 
@@ -39,17 +42,17 @@ fn deliver_all(house: House, rec: &[u8]) -> House {
     h
 }
 
-fn say(found: Figures) {
+fn say_figures(found: Figures) {
     let answer = found.answer;
-    io::print_decimal(1, answers::number(answer) as u64);
-    io::write_all(1, b" ");
-    io::print_decimal(1, found.free as u64);
-    io::write_all(1, b" ");
-    io::print_decimal(1, found.promised as u64);
-    io::write_all(1, b"\n");
+    say_answer(answer);
+    say(b" ");
+    say_number(found.free as u64);
+    say(b" ");
+    say_number(found.promised as u64);
+    say(b"\n");
 }
 
 fn main() {
     let house = deliver_all(held(), b"\x04\x00\x0f\x0a\x00\x00\x00\x00");
-    say(calls::figures(house));
+    say_figures(calls::figures(house));
 }

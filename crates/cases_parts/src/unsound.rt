@@ -3,7 +3,6 @@
 // rising, so a list that does not rise is not sound, even of distinct parts.
 use crate::deliver::deliver;
 use crate::records::Step;
-use crate::text::say;
 use handmade::rising_parts;
 use handmade::standing;
 use handmade::two_parts;
@@ -11,6 +10,7 @@ use numbers::Order;
 use order::Place;
 use session::Session;
 use session::Standing;
+use telling::say;
 
 fn judge(what: &[u8], standing: Standing, parts: [u64; 32]) {
     say(what);

@@ -2,26 +2,26 @@
 // a slice of that length would get, and writes each row as the house yields it.
 use crate::parsing::Number;
 use crate::text::no_call;
-use crate::text::say;
-use crate::text::say_answer;
-use crate::text::say_number;
 use calls::judge_report;
 use calls::row_at;
 use house::House;
 use house::Reported;
 use house::Row;
+use telling::say;
+use telling::say_answer;
+use telling::say_number;
 ghost use Prim.Native.Nat.{_≤_};
 ghost use Rattle.house.specs.Report.{rowsOf};
 
 fn say_row(row: Row) {
     say(b" ");
-    say_number(row.head as u32);
+    say_number(row.head as u64);
     say(b"/");
-    say_number(row.site as u32);
+    say_number(row.site as u64);
     say(b"/");
-    say_number(row.bin as u32);
+    say_number(row.bin as u64);
     say(b"=");
-    say_number(row.count);
+    say_number(row.count as u64);
 }
 
 fn say_rows(house: House, slot: u32, rows: usize)
@@ -39,7 +39,7 @@ fn say_report(house: House, slot: u32, rows: usize)
     requires { ⌜ rows ≤ rowsOf house slot ⌝ }
 {
     say(b" ");
-    io::print_decimal(1, rows as u64);
+    say_number(rows as u64);
     say_rows(house, slot, rows);
 }
 
