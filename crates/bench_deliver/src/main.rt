@@ -1,34 +1,20 @@
 // Delivers one record a hundred thousand times to a house with 1,000 rows held, by value: what a call costs.
 // The record is a PTR, whose body is not read: nearly every record of a real lot. It prints the last figures.
+use handmade::rising_keys;
+use handmade::standing;
 use house::Figures;
 use house::House;
 use house::Slot;
-use numbers::Order;
 use order::Place;
 use session::Session;
-use session::Standing;
+use telling::say;
+use telling::say_answer;
+use telling::say_number;
 
 const TURNS: u64 = 100000;
 
-// Head 0 and site 0, each with the next bin: keys of slot 0.
-fn rising_keys() -> [u64; 1024] {
-    let mut keys = [0u64; 1024];
-    let mut i: usize = 0;
-    while i < 1024 {
-        keys[i] = i as u64;
-        i += 1;
-    }
-    keys
-}
-
 fn held() -> House {
-    let standing = Standing {
-        place: Place::Body,
-        order: Order::LowFirst,
-        opened: 0,
-        pcr: false,
-        results: 1000,
-    };
+    let standing = standing(Place::Body, 0, false, 1000);
     let session = Session {
         standing,
         parts: [0u64; 32],
@@ -56,17 +42,17 @@ fn deliver_all(house: House, rec: &[u8]) -> House {
     h
 }
 
-fn say(found: Figures) {
+fn say_figures(found: Figures) {
     let answer = found.answer;
-    io::print_decimal(1, answers::number(answer) as u64);
-    io::write_all(1, b" ");
-    io::print_decimal(1, found.free as u64);
-    io::write_all(1, b" ");
-    io::print_decimal(1, found.promised as u64);
-    io::write_all(1, b"\n");
+    say_answer(answer);
+    say(b" ");
+    say_number(found.free as u64);
+    say(b" ");
+    say_number(found.promised as u64);
+    say(b"\n");
 }
 
 fn main() {
     let house = deliver_all(held(), b"\x04\x00\x0f\x0a\x00\x00\x00\x00");
-    say(calls::figures(house));
+    say_figures(calls::figures(house));
 }

@@ -5,6 +5,8 @@ use house::Room;
 use numbers::Order;
 use order::Place;
 use session::Standing;
+use telling::say;
+use telling::say_number;
 ghost use mathlib.Core.Path.{_≡_};
 ghost use Prim.Native.Nat.{_+_, _≤_, _<_};
 ghost use lib.ListN.{length};
@@ -146,10 +148,10 @@ fn run() -> Ran {
 
 fn main() {
     let r = run();
-    io::print_decimal(1, r.accepted);
-    io::write_all(1, b" ");
-    io::print_decimal(1, r.used as u64);
-    io::write_all(1, b" ");
-    io::print_decimal(1, r.results as u64);
-    io::write_all(1, b"\n");
+    say_number(r.accepted);
+    say(b" ");
+    say_number(r.used as u64);
+    say(b" ");
+    say_number(r.results as u64);
+    say(b"\n");
 }

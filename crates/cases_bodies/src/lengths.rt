@@ -1,12 +1,12 @@
 // Which lengths of a body fit its kind. A body is cut at every length, so it is cut inside each field and at each
 // field's end; its strings are all empty, or all as long as can be.
-use crate::text::say;
-use crate::text::say_number;
-use crate::text::say_order;
 use bodies::Reading;
 use bodies::read_body;
 use kinds::Kind;
 use numbers::Order;
+use telling::say;
+use telling::say_number;
+use telling::say_order;
 ghost use Prim.Native.Nat.{_+_, _≤_, _<_};
 
 const ROOM: usize = 8192;
@@ -36,10 +36,10 @@ fn run_at(order: Order, kind: Kind, bytes: &[u8], n: usize, run: usize) -> usize
     }
     if 0 < run {
         say(b" ");
-        say_number((n - run) as u32);
+        say_number((n - run) as u64);
         if 1 < run {
             say(b" to ");
-            say_number((n - 1) as u32);
+            say_number((n - 1) as u64);
         }
     }
     0
@@ -111,9 +111,9 @@ fn say_orders(name: &[u8], strings: &[u8], kind: Kind, bytes: &[u8]) {
 fn say_range(name: &[u8], kind: Kind, empty: &[u8], full: &[u8]) {
     say(name);
     say(b" bodies: ");
-    say_number(shortest(kind, empty));
+    say_number(shortest(kind, empty) as u64);
     say(b" to ");
-    say_number(longest(kind, full));
+    say_number(longest(kind, full) as u64);
     say(b"\n");
 }
 

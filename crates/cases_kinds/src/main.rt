@@ -1,54 +1,10 @@
 // The kind of all 65,536 pairs, as a transcript: document 01, "Record frame and kinds". Held to the file stdout.
 use kinds::Kind;
-use kinds::Remaining;
 use kinds::kind_of;
+use telling::say;
+use telling::say_kind;
+use telling::say_number;
 ghost use Prim.Native.Nat.{_+_, _≤_};
-
-fn say(text: &[u8]) {
-    io::write_all(1, text);
-}
-
-fn say_number(n: u32) {
-    io::print_decimal(1, n as u64);
-}
-
-fn remaining_name(kind: Remaining) -> [u8; 3] {
-    match kind {
-        Remaining::Pmr => *b"PMR",
-        Remaining::Pgr => *b"PGR",
-        Remaining::Plr => *b"PLR",
-        Remaining::Wir => *b"WIR",
-        Remaining::Wrr => *b"WRR",
-        Remaining::Wcr => *b"WCR",
-        Remaining::Tsr => *b"TSR",
-        Remaining::Ptr => *b"PTR",
-        Remaining::Mpr => *b"MPR",
-        Remaining::Ftr => *b"FTR",
-        Remaining::Bps => *b"BPS",
-        Remaining::Eps => *b"EPS",
-        Remaining::Gdr => *b"GDR",
-        Remaining::Dtr => *b"DTR",
-    }
-}
-
-fn name(kind: Kind) -> [u8; 3] {
-    match kind {
-        Kind::Far => *b"FAR",
-        Kind::Atr => *b"ATR",
-        Kind::Mir => *b"MIR",
-        Kind::Mrr => *b"MRR",
-        Kind::Pcr => *b"PCR",
-        Kind::Hbr => *b"HBR",
-        Kind::Sbr => *b"SBR",
-        Kind::Rdr => *b"RDR",
-        Kind::Sdr => *b"SDR",
-        Kind::Pir => *b"PIR",
-        Kind::Prr => *b"PRR",
-        Kind::Remaining(k) => remaining_name(k),
-        Kind::Custom => *b"...",
-        Kind::Unknown => *b"???",
-    }
-}
 
 // What this transcript tells apart.
 const NAMED: u8 = 0;
@@ -66,12 +22,11 @@ fn class(typ: u8, sub: u8) -> u8 {
 }
 
 fn say_pair(typ: u8, sub: u8) {
-    say_number(typ as u32);
+    say_number(typ as u64);
     say(b" ");
-    say_number(sub as u32);
+    say_number(sub as u64);
     say(b" ");
-    let letters = name(kind_of(typ, sub));
-    say(&letters);
+    say_kind(kind_of(typ, sub));
     say(b"\n");
 }
 
@@ -89,11 +44,11 @@ fn say_named(typ: u8) {
 
 fn say_run(typ: u8, first: u32, last: u32) {
     say(b"type ");
-    say_number(typ as u32);
+    say_number(typ as u64);
     say(b", subtypes ");
-    say_number(first);
+    say_number(first as u64);
     say(b" to ");
-    say_number(last);
+    say_number(last as u64);
     say(b"\n");
 }
 
@@ -124,11 +79,11 @@ fn say_custom(typ: u8) {
 }
 
 // How many subtypes of a type are of a class.
-fn count(typ: u8, which: u8) -> u32
+fn count(typ: u8, which: u8) -> u64
     ensures { λ r. ⌜ r ≤ 256 ⌝ }
 {
     let mut s: u32 = 0;
-    let mut n: u32 = 0;
+    let mut n: u64 = 0;
     while s < 256 {
         let sub = (s % 256) as u8;
         if class(typ, sub) == which {
@@ -141,7 +96,7 @@ fn count(typ: u8, which: u8) -> u32
 
 fn say_count(text: &[u8], which: u8) {
     let mut t: u32 = 0;
-    let mut n: u32 = 0;
+    let mut n: u64 = 0;
     while t < 256 {
         n += count((t % 256) as u8, which);
         t += 1;

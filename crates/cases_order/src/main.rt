@@ -1,75 +1,40 @@
 // Where each kind takes a stream from each place, as a table: document 01, "Order of a stream". A cell is the place
 // after the record, or 8. Held to the file stdout.
-mod names;
-
 use kinds::Kind;
 use kinds::kind_of;
-use names::remaining_name;
 use order::Place;
 use order::Step;
 use order::next_place;
-
-fn say(words: &[u8]) {
-    io::write_all(1, words);
-}
-
-// Every cell is as wide as the others, so that the places stand below each other.
-fn say_place(place: Place) {
-    match place {
-        Place::Start => say(b"   start"),
-        Place::Header => say(b"  header"),
-        Place::Lot => say(b"     lot"),
-        Place::Setup => say(b"   setup"),
-        Place::Body => say(b"    body"),
-        Place::Ended => say(b"   ended"),
-    }
-}
+use telling::say;
+use telling::say_cell;
+use telling::say_kind;
+use telling::say_places;
 
 fn say_step(step: Step) {
     match step {
-        Step::To(place) => say_place(place),
+        Step::To(place) => say_cell(place),
         Step::OutOfPlace => say(b"       8"),
     }
 }
 
-fn say_kind(kind: Kind) {
+// A row's name, as wide as the widest.
+fn say_name(kind: Kind) {
+    say_kind(kind);
     match kind {
-        Kind::Far => say(b"FAR    "),
-        Kind::Atr => say(b"ATR    "),
-        Kind::Mir => say(b"MIR    "),
-        Kind::Mrr => say(b"MRR    "),
-        Kind::Pcr => say(b"PCR    "),
-        Kind::Hbr => say(b"HBR    "),
-        Kind::Sbr => say(b"SBR    "),
-        Kind::Rdr => say(b"RDR    "),
-        Kind::Sdr => say(b"SDR    "),
-        Kind::Pir => say(b"PIR    "),
-        Kind::Prr => say(b"PRR    "),
-        Kind::Remaining(k) => say(&remaining_name(k)),
-        Kind::Custom => say(b"custom "),
-        Kind::Unknown => say(b"unknown"),
+        Kind::Custom => say(b" "),
+        Kind::Unknown => {}
+        _ => say(b"    "),
     }
 }
 
 fn say_row(kind: Kind) {
-    say_kind(kind);
+    say_name(kind);
     say_step(next_place(Place::Start, kind));
     say_step(next_place(Place::Header, kind));
     say_step(next_place(Place::Lot, kind));
     say_step(next_place(Place::Setup, kind));
     say_step(next_place(Place::Body, kind));
     say_step(next_place(Place::Ended, kind));
-    say(b"\n");
-}
-
-fn say_header() {
-    say(b"after: ");
-    say_place(Place::Start);
-    say_place(Place::Header);
-    say_place(Place::Lot);
-    say_place(Place::Setup);
-    say_place(Place::Body);
-    say_place(Place::Ended);
     say(b"\n");
 }
 
@@ -108,7 +73,7 @@ fn say_other_kinds() {
 
 // An unknown kind is refused (6) before its place is asked, so its row is any other kind's.
 fn main() {
-    say_header();
+    say_places();
     say_lot_kinds();
     say_other_kinds();
     say_row(kind_of(201, 0));

@@ -3,15 +3,15 @@ use crate::records::Start;
 use crate::records::Step;
 use crate::records::say_step;
 use crate::records::start_of;
-use crate::text::say;
-use crate::text::say_number;
-use crate::text::say_place;
-use answers::number;
 use numbers::Order;
 use session::Session;
 use session::Standing;
 use session::Verdict;
 use session::judge_record;
+use telling::say;
+use telling::say_answer;
+use telling::say_number;
+use telling::say_place;
 ghost use Prim.Native.Nat.{_+_, _<_};
 ghost use lib.ListN.{length};
 
@@ -27,7 +27,7 @@ fn say_key(key: u32) {
 
 fn say_verdict(verdict: Verdict) {
     match verdict {
-        Verdict::Refused(a) => say_number(number(a) as u64),
+        Verdict::Refused(a) => say_answer(a),
         Verdict::Taken(_) => say(b"0"),
         Verdict::Opened(_, _, _) => say(b"0"),
         Verdict::Wanted(_, _, key) => say_key(key),

@@ -4,7 +4,6 @@
 mod deliver;
 mod parts;
 mod records;
-mod text;
 mod unsound;
 
 use numbers::Order;

@@ -2,12 +2,12 @@
 use crate::deliver::deliver;
 use crate::deliver::deliver_all;
 use crate::records::Step;
-use crate::text::say;
-use crate::text::say_order;
 use numbers::Order;
 use order::Place;
 use session::Session;
 use session::Standing;
+use telling::say;
+use telling::say_order;
 
 fn heading(what: &[u8], order: Order) {
     say(what);

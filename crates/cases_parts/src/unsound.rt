@@ -3,11 +3,14 @@
 // rising, so a list that does not rise is not sound, even of distinct parts.
 use crate::deliver::deliver;
 use crate::records::Step;
-use crate::text::say;
+use handmade::rising_parts;
+use handmade::standing;
+use handmade::two_parts;
 use numbers::Order;
 use order::Place;
 use session::Session;
 use session::Standing;
+use telling::say;
 
 fn judge(what: &[u8], standing: Standing, parts: [u64; 32]) {
     say(what);
@@ -18,35 +21,7 @@ fn judge(what: &[u8], standing: Standing, parts: [u64; 32]) {
         head: 0,
         site: 0,
     };
-    deliver(s, Order::HighFirst, step);
-}
-
-fn standing(place: Place, opened: usize, pcr: bool, results: u32) -> Standing {
-    Standing {
-        place,
-        order: Order::HighFirst,
-        opened,
-        pcr,
-        results,
-    }
-}
-
-// Parts 1/1 and on, each with the next site.
-fn rising_parts() -> [u64; 32] {
-    let mut parts = [0u64; 32];
-    let mut i: usize = 0;
-    while i < 32 {
-        parts[i] = 257 + i as u64;
-        i += 1;
-    }
-    parts
-}
-
-fn two(first: u64, second: u64) -> [u64; 32] {
-    let mut parts = [0u64; 32];
-    parts[0] = first;
-    parts[1] = second;
-    parts
+    deliver(s, Order::LowFirst, step);
 }
 
 fn say_parts() {
@@ -56,33 +31,37 @@ fn say_parts() {
     judge(
         b"parts 1/1 and 1/2",
         standing(body, 2, false, 0),
-        two(257, 258),
+        two_parts(257, 258),
     );
     judge(
         b"part 1/1 twice",
         standing(body, 2, false, 0),
-        two(257, 257),
+        two_parts(257, 257),
     );
     judge(
         b"part 1/1 twice, one open",
         standing(body, 1, false, 0),
-        two(257, 257),
+        two_parts(257, 257),
     );
     judge(
         b"parts 1/2 and 1/1",
         standing(body, 2, false, 0),
-        two(258, 257),
+        two_parts(258, 257),
     );
     judge(
         b"part 254/255",
         standing(body, 2, false, 0),
-        two(257, 65279),
+        two_parts(257, 65279),
     );
-    judge(b"part 255/0", standing(body, 2, false, 0), two(257, 65280));
+    judge(
+        b"part 255/0",
+        standing(body, 2, false, 0),
+        two_parts(257, 65280),
+    );
     judge(
         b"part 255/0, closed",
         standing(body, 1, false, 0),
-        two(257, 65280),
+        two_parts(257, 65280),
     );
 }
 

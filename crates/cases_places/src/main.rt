@@ -3,16 +3,15 @@
 // fits, all zeros but for the FAR's. No part is open; in the body and behind the MRR a PCR was accepted. Held to the
 // file stdout.
 use answers::number;
-use numbers::Order;
+use handmade::standing;
 use order::Place;
 use session::Session;
-use session::Standing;
 use session::Verdict;
 use session::judge_record;
-
-fn say(words: &[u8]) {
-    io::write_all(1, words);
-}
+use telling::say;
+use telling::say_cell;
+use telling::say_number;
+use telling::say_places;
 
 fn number_of(verdict: Verdict) -> u8 {
     match verdict {
@@ -35,28 +34,10 @@ fn in_body(place: Place) -> bool {
 }
 
 fn session_at(place: Place) -> Session {
-    let order = Order::LowFirst;
-    let standing = Standing {
-        place,
-        order,
-        opened: 0,
-        pcr: in_body(place),
-        results: 0,
-    };
+    let standing = standing(place, 0, in_body(place), 0);
     Session {
         standing,
         parts: [0; 32],
-    }
-}
-
-fn say_place(place: Place) {
-    match place {
-        Place::Start => say(b"   start"),
-        Place::Header => say(b"  header"),
-        Place::Lot => say(b"     lot"),
-        Place::Setup => say(b"   setup"),
-        Place::Body => say(b"    body"),
-        Place::Ended => say(b"   ended"),
     }
 }
 
@@ -67,10 +48,10 @@ fn say_refusal(n: u8) {
     } else {
         say(b"      ");
     }
-    io::print_decimal(1, n as u64);
+    say_number(n as u64);
 }
 
-fn say_cell(place: Place, rec: &[u8]) {
+fn say_after(place: Place, rec: &[u8]) {
     let judged = judge_record(session_at(place), rec);
     let verdict = judged.verdict;
     let n = number_of(verdict);
@@ -78,7 +59,7 @@ fn say_cell(place: Place, rec: &[u8]) {
         let next = judged.session;
         let standing = next.standing;
         let after = standing.place;
-        say_place(after);
+        say_cell(after);
     } else {
         say_refusal(n);
     }
@@ -86,29 +67,18 @@ fn say_cell(place: Place, rec: &[u8]) {
 
 fn say_row(name: &[u8], rec: &[u8]) {
     say(name);
-    say_cell(Place::Start, rec);
-    say_cell(Place::Header, rec);
-    say_cell(Place::Lot, rec);
-    say_cell(Place::Setup, rec);
-    say_cell(Place::Body, rec);
-    say_cell(Place::Ended, rec);
+    say_after(Place::Start, rec);
+    say_after(Place::Header, rec);
+    say_after(Place::Lot, rec);
+    say_after(Place::Setup, rec);
+    say_after(Place::Body, rec);
+    say_after(Place::Ended, rec);
     say(b"\n");
 }
 
 fn say_bare(name: &[u8], typ: u8, sub: u8) {
     let rec = [0, 0, typ, sub];
     say_row(name, &rec);
-}
-
-fn say_header() {
-    say(b"after: ");
-    say_place(Place::Start);
-    say_place(Place::Header);
-    say_place(Place::Lot);
-    say_place(Place::Setup);
-    say_place(Place::Body);
-    say_place(Place::Ended);
-    say(b"\n");
 }
 
 // The kinds whose bodies are read.
@@ -154,7 +124,7 @@ fn say_unread() {
 }
 
 fn main() {
-    say_header();
+    say_places();
     say_read();
     say_unread();
     say_bare(b"custom ", 201, 0);

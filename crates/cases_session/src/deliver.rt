@@ -1,15 +1,15 @@
 // A record delivered to a session, and its line of the transcript.
+use crate::bytes::say_bytes;
 use crate::records::say_name;
 use crate::records::start_of;
-use crate::text::say;
-use crate::text::say_bytes;
-use crate::text::say_number;
-use crate::text::say_place;
 use answers::number;
 use numbers::Order;
 use session::Session;
 use session::Verdict;
 use session::judge_record;
+use telling::say;
+use telling::say_number;
+use telling::say_place;
 
 fn number_of(verdict: Verdict) -> u8 {
     match verdict {
@@ -28,7 +28,7 @@ fn judge_and_say(s: Session, rec: &[u8]) -> Session {
     let standing = next.standing;
     let place = standing.place;
     say(b": ");
-    say_number(number_of(verdict) as u32);
+    say_number(number_of(verdict) as u64);
     say(b", ");
     say_place(place);
     say(b"\n");

@@ -1,9 +1,9 @@
 // The first record: each fault, in the order of the checks, and at its boundary.
 use crate::deliver::deliver_all;
 use crate::deliver::deliver_bytes;
-use crate::text::say;
 use numbers::Order;
 use session::Session;
+use telling::say;
 
 fn first(rec: &[u8]) {
     deliver_bytes(Session::begin(), rec);

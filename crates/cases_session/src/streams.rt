@@ -1,10 +1,10 @@
 // The order of a stream, and the checks that come before and behind it: 3, 6, 8, 7.
 use crate::deliver::deliver_all;
 use crate::deliver::deliver_bytes;
-use crate::text::say;
-use crate::text::say_order;
 use numbers::Order;
 use session::Session;
+use telling::say;
+use telling::say_order;
 
 fn other(order: Order) -> Order {
     match order {

@@ -1,8 +1,8 @@
 // Houses, slots and their sessions, built field by field: the calls would let none of those be reached that is not
 // sound.
+use handmade::standing;
 use house::House;
 use house::Slot;
-use numbers::Order;
 use order::Place;
 use session::Session;
 use session::Standing;
@@ -13,45 +13,6 @@ pub(crate) fn cells(first: u64, second: u64) -> [u64; 1024] {
     all[0] = first;
     all[1] = second;
     all
-}
-
-// Head 0 and site 0, each with the next bin: keys of slot 0.
-pub(crate) fn rising_keys() -> [u64; 1024] {
-    let mut keys = [0u64; 1024];
-    let mut i: usize = 0;
-    while i < 1024 {
-        keys[i] = i as u64;
-        i += 1;
-    }
-    keys
-}
-
-// Parts 1/1 and on, each with the next site.
-pub(crate) fn rising_parts() -> [u64; 32] {
-    let mut parts = [0u64; 32];
-    let mut i: usize = 0;
-    while i < 32 {
-        parts[i] = 257 + i as u64;
-        i += 1;
-    }
-    parts
-}
-
-pub(crate) fn two_parts(first: u64, second: u64) -> [u64; 32] {
-    let mut parts = [0u64; 32];
-    parts[0] = first;
-    parts[1] = second;
-    parts
-}
-
-pub(crate) fn standing(place: Place, opened: usize, pcr: bool, results: u32) -> Standing {
-    Standing {
-        place,
-        order: Order::LowFirst,
-        opened,
-        pcr,
-        results,
-    }
 }
 
 pub(crate) fn slot(taken: bool, floor: u32, standing: Standing, parts: [u64; 32]) -> Slot {

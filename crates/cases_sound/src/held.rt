@@ -5,16 +5,16 @@ use crate::build::cells;
 use crate::build::closed;
 use crate::build::house_of;
 use crate::build::open;
-use crate::build::rising_keys;
 use crate::build::slot;
-use crate::build::standing;
-use crate::build::two_parts;
 use crate::build::with_rows;
 use crate::line::line;
 use crate::line::line_result;
-use crate::text::say;
+use handmade::rising_keys;
+use handmade::standing;
+use handmade::two_parts;
 use house::House;
 use order::Place;
+use telling::say;
 
 // One row of slot 0 with its count, and so many PRRs accepted.
 fn one(key: u64, count: u64, results: u32) -> House {

@@ -1,6 +1,4 @@
 // A house's line: its name and what each call answers.
-use crate::text::say;
-use crate::text::say_number;
 use answers::Answer;
 use answers::number;
 use calls::close_slot;
@@ -9,17 +7,20 @@ use calls::figures;
 use calls::judge_report;
 use calls::open_slot;
 use house::House;
+use telling::say;
+use telling::say_answer;
+use telling::say_number;
 
-fn say_answer(call: &[u8], answer: Answer) {
+fn say_call(call: &[u8], answer: Answer) {
     say(call);
-    say_number(number(answer) as u64);
+    say_answer(answer);
 }
 
 // The figures are told of a sound house only: of another there are none.
 fn say_figures(h: House) {
     let f = figures(h);
     let answer = f.answer;
-    say_answer(b", figures ", answer);
+    say_call(b", figures ", answer);
     if number(answer) == 0 {
         say(b", ");
         say_number(f.free as u64);
@@ -34,16 +35,16 @@ pub(crate) fn line(name: &[u8], h: House) {
     say(name);
     let opened = open_slot(h, 15, 0);
     let answer = opened.answer;
-    say_answer(b": open ", answer);
+    say_call(b": open ", answer);
     let delivered = deliver(h, 0, b"");
     let answer = delivered.answer;
-    say_answer(b", deliver ", answer);
+    say_call(b", deliver ", answer);
     let reported = judge_report(h, 0, 1024);
     let answer = reported.answer;
-    say_answer(b", report ", answer);
+    say_call(b", report ", answer);
     let closed = close_slot(h, 0);
     let answer = closed.answer;
-    say_answer(b", close ", answer);
+    say_call(b", close ", answer);
     say_figures(h);
 }
 
@@ -53,6 +54,6 @@ pub(crate) fn line_result(name: &[u8], h: House) {
     say(name);
     let delivered = deliver(h, 0, &rec);
     let answer = delivered.answer;
-    say_answer(b": deliver PRR 1/1 bin 5 ", answer);
+    say_call(b": deliver PRR 1/1 bin 5 ", answer);
     say(b"\n");
 }

@@ -7,7 +7,6 @@ mod held;
 mod line;
 mod rooms;
 mod sessions;
-mod text;
 
 fn main() {
     held::say_all();

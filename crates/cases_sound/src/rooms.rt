@@ -5,12 +5,12 @@ use crate::build::closed;
 use crate::build::house_of;
 use crate::build::open;
 use crate::build::slot;
-use crate::build::standing;
 use crate::build::with_rows;
 use crate::build::with_slots;
 use crate::line::line;
-use crate::text::say;
+use handmade::standing;
 use order::Place;
+use telling::say;
 
 // A floor of 1,025 breaks the room too: with n rows held it is promised 1,025 - n, and free is 1,024 - n.
 fn say_floors() {

@@ -3,17 +3,17 @@
 // see it. Where it has accepted a PRR there is a row for it, so that the sum is right.
 use crate::build::cells;
 use crate::build::closed;
-use crate::build::rising_parts;
 use crate::build::slot;
-use crate::build::standing;
-use crate::build::two_parts;
 use crate::build::with_rows;
 use crate::build::with_slots;
 use crate::line::line;
-use crate::text::say;
-use crate::text::say_place;
+use handmade::rising_parts;
+use handmade::standing;
+use handmade::two_parts;
 use order::Place;
 use session::Standing;
+use telling::say;
+use telling::say_place;
 
 fn judge(name: &[u8], st: Standing, parts: [u64; 32]) {
     line(name, with_slots(slot(true, 0, st, parts), closed()));

@@ -3,14 +3,12 @@ use following::Stream;
 use following::begin;
 use following::finish;
 use following::follow;
+use telling::say;
+use telling::say_number;
 ghost use mathlib.Core.Path.{_≡_};
 ghost use Prim.Native.Nat.{_+_, _≤_, _<_};
 ghost use lib.ListN.{length, take};
 ghost use Rattle.cases_tally.specs.Feed.{Ready, ReadyAt};
-
-pub(crate) fn say(text: &[u8]) {
-    io::write_all(1, text);
-}
 
 fn least(a: usize, b: usize) -> usize
     requires { ⌜ (1 ≤ a) × (1 ≤ b) ⌝ }
@@ -85,7 +83,7 @@ pub(crate) fn end(name: &[u8], cut: usize, s: Stream, buf: &[u8])
     let n = finish(s, buf, &mut text);
     say(name);
     say(b", ");
-    io::print_decimal(1, cut as u64);
+    say_number(cut as u64);
     say(b" a chunk\n");
     say(&text[0..n]);
 }

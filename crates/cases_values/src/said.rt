@@ -1,6 +1,4 @@
 // What is read of a body, field by field.
-use crate::text::say;
-use crate::text::say_number;
 use bodies::Bin;
 use bodies::Naming;
 use bodies::Optional;
@@ -10,16 +8,18 @@ use bodies::Record;
 use bodies::read_body;
 use kinds::Kind;
 use numbers::Order;
+use telling::say;
+use telling::say_number;
 
 fn say_field(name: &[u8], n: u32) {
     say(name);
-    say_number(n);
+    say_number(n as u64);
 }
 
 fn say_optional(name: &[u8], field: Optional) {
     say(name);
     match field {
-        Optional::Value(n) => say_number(n),
+        Optional::Value(n) => say_number(n as u64),
         Optional::Missing => say(b"missing"),
     }
 }
@@ -43,9 +43,9 @@ fn say_naming(name: Naming) {
     match name {
         Naming::Value(n) => {
             say(b" name of ");
-            io::print_decimal(1, n.len as u64);
+            say_number(n.len as u64);
             say(b" bytes at ");
-            io::print_decimal(1, n.at as u64);
+            say_number(n.at as u64);
         }
         Naming::Missing => say(b" name missing"),
     }

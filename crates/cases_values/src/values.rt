@@ -1,11 +1,11 @@
 // Each value rule at both sides of its boundary: the number that a body is answered, 0 or 7.
-use crate::text::say;
-use crate::text::say_number;
-use crate::text::say_order;
 use bodies::Reading;
 use bodies::read_body;
 use kinds::Kind;
 use numbers::Order;
+use telling::say;
+use telling::say_number;
+use telling::say_order;
 
 fn say_answer(reading: Reading) {
     match reading {
@@ -30,9 +30,9 @@ fn say_bin(name: &[u8], kind: Kind, order: Order, bin: u16, pf: u8) {
     let body = [0, 0, b[0], b[1], 0, 0, 0, 0, pf, 0];
     say(name);
     say(b" bin ");
-    say_number(bin as u32);
+    say_number(bin as u64);
     say(b" P/F byte ");
-    say_number(pf as u32);
+    say_number(pf as u64);
     say(b", ");
     say_order(order);
     say_answer(read_body(order, kind, &body));
@@ -55,13 +55,13 @@ fn say_prr(order: Order, head: u8, flags: u8, hard: u16, soft: u16) {
     let s = two(order, soft);
     let body = [head, 0, flags, 0, 0, h[0], h[1], s[0], s[1]];
     say(b"PRR head ");
-    say_number(head as u32);
+    say_number(head as u64);
     say(b" flags ");
-    say_number(flags as u32);
+    say_number(flags as u64);
     say(b" hard bin ");
-    say_number(hard as u32);
+    say_number(hard as u64);
     say(b" soft bin ");
-    say_number(soft as u32);
+    say_number(soft as u64);
     say(b", ");
     say_order(order);
     say_answer(read_body(order, Kind::Prr, &body));
@@ -85,7 +85,7 @@ fn say_prrs(order: Order) {
 fn say_head(name: &[u8], kind: Kind, head: u8, body: &[u8]) {
     say(name);
     say(b" head ");
-    say_number(head as u32);
+    say_number(head as u64);
     say_answer(read_body(Order::LowFirst, kind, body));
 }
 

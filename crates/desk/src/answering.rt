@@ -10,11 +10,11 @@ use crate::parsing::verb_of;
 use crate::parsing::word_end;
 use crate::report::report_call;
 use crate::text::no_call;
-use crate::text::say;
-use crate::text::say_answer;
-use crate::text::say_number;
 use house::Answered;
 use house::House;
+use telling::say;
+use telling::say_answer;
+use telling::say_number;
 ghost use Prim.Native.Nat.{_≤_};
 ghost use lib.ListN.{length};
 
@@ -53,9 +53,9 @@ fn figures_call(house: House) -> House {
     say_answer(answer);
     if answers::number(answer) == 0 {
         say(b" ");
-        say_number(found.free);
+        say_number(found.free as u64);
         say(b" ");
-        say_number(found.promised);
+        say_number(found.promised as u64);
     }
     say(b"\n");
     house

@@ -10,10 +10,11 @@ use crate::parsing::unhex;
 use crate::parsing::wide_of;
 use crate::parsing::word_end;
 use crate::text::no_call;
-use crate::text::say;
-use crate::text::say_answer;
 use house::House;
 use placing::Written;
+use telling::say;
+use telling::say_answer;
+use telling::say_number;
 ghost use mathlib.Core.Path.{_≡_};
 ghost use Prim.Native.Nat.{_≤_};
 ghost use lib.ListN.{length};
@@ -81,7 +82,7 @@ fn say_written(written: Written) {
     match written {
         Written::Bytes(n) => {
             say(b"0 ");
-            io::print_decimal(1, n as u64);
+            say_number(n as u64);
         }
         Written::Refused(answer) => say_answer(answer),
     }

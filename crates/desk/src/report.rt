@@ -2,24 +2,24 @@
 // 1,024: what is printed are the rows that were written to the slice.
 use crate::parsing::Number;
 use crate::text::no_call;
-use crate::text::say;
-use crate::text::say_answer;
-use crate::text::say_number;
 use calls::list_rows;
 use house::House;
 use house::Listing;
 use house::Row;
+use telling::say;
+use telling::say_answer;
+use telling::say_number;
 ghost use Prim.Native.Nat.{_≤_};
 
 fn say_row(row: Row) {
     say(b" ");
-    say_number(row.head as u32);
+    say_number(row.head as u64);
     say(b"/");
-    say_number(row.site as u32);
+    say_number(row.site as u64);
     say(b"/");
-    say_number(row.bin as u32);
+    say_number(row.bin as u64);
     say(b"=");
-    say_number(row.count);
+    say_number(row.count as u64);
 }
 
 // How many rows there are, and the rows.
@@ -27,7 +27,7 @@ fn say_rows(list: Listing, rows: usize)
     requires { ⌜ rows ≤ 1024 ⌝ }
 {
     say(b" ");
-    io::print_decimal(1, rows as u64);
+    say_number(rows as u64);
     let mut i: usize = 0;
     while i < rows {
         say_row(list.rows[i]);

@@ -23,8 +23,8 @@ slice-aggregate-say c = search needs
 say-requires-2 : tie.Need-say-requires-2
 say-requires-2 c κs = search needs
 
-print-decimal-requires : tie.Need-print-decimal-requires
-print-decimal-requires c κs = search needs
+say-number-requires : tie.Need-say-number-requires
+say-number-requires c κs = search needs
 
 slice-aggregate-say-2 : tie.Need-slice-aggregate-say-2
 slice-aggregate-say-2 c = search needs
@@ -58,7 +58,7 @@ end-spec =
     say-requires
     slice-aggregate-say
     say-requires-2
-    print-decimal-requires
+    say-number-requires
     slice-aggregate-say-2
     say-requires-3
     sub-say

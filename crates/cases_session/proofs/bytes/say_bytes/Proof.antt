@@ -1,10 +1,10 @@
--- `cases_session::text::say_bytes` ends, and its numbers fit.
+-- `cases_session::bytes::say_bytes` ends, and its numbers fit.
 -- Assumes nothing.
 use Prim.Native.Nat.{_-_, _≤_}
 use lib.ListN.{length}
 use borrow.Author.Needs.{needs}
-use Rattle.cases_session.proofs.text.say_bytes.Statement.{statement}
-use Rattle.cases_session.proofs.text.say_bytes.Tie as tie
+use Rattle.cases_session.proofs.bytes.say_bytes.Statement.{statement}
+use Rattle.cases_session.proofs.bytes.say_bytes.Tie as tie
 
 abbrev Inv-loop : tie.InvT-loop
 Inv-loop bytes i₀ i = i ≤ length bytes
