@@ -1,7 +1,7 @@
 -- `following::saying::put_number` meets its contract, by recursion on the quotient: below 2^32 as `digits` does it,
 -- else the last digit goes behind those of the quotient.
 -- Assumes nothing.
-use Prim.Native.Nat.{ℕ, _/_, _%_}
+use Prim.Native.Nat.{ℕ, _/_, _%_, _<_}
 use native.Mathlib.Omega.{arith}
 use lib.ListN.{length, length-set}
 use denote.Ref.{now}
