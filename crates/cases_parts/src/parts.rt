@@ -2,6 +2,7 @@
 use crate::deliver::deliver;
 use crate::deliver::deliver_all;
 use crate::records::Step;
+use handmade::two_parts;
 use numbers::Order;
 use order::Place;
 use session::Session;
@@ -53,8 +54,7 @@ fn counted(order: Order, results: u32) -> Session {
         pcr: false,
         results,
     };
-    let mut parts = [0u64; 32];
-    parts[0] = 257;
+    let parts = two_parts(257, 0);
     Session { standing, parts }
 }
 

@@ -10,7 +10,6 @@ use layouts::laying::place;
 use placing::Written;
 use placing::put_byte;
 use placing::put_part;
-ghost use mathlib.Core.Path.{_≡_};
 ghost use mathlib.Core.List.{_++_};
 ghost use Prim.Native.Nat.{_+_, _≤_};
 ghost use lib.ListN.{length};
@@ -42,12 +41,20 @@ fn put_last(out: &mut [u8], n: u64) -> usize
     k + put_byte(&mut out[k..], b'\n')
 }
 
+// Words, then a number, and the end of the line.
+fn put_said(out: &mut [u8], words: &[u8], n: u64) -> usize
+    requires { ⌜ Room (now words ++ lastNumber n) (now out) ⌝ }
+    ensures { λ r. ⌜ Put (now (words .entry) ++ lastNumber n) (now (out .entry)) r (now (out .exit)) ⌝ }
+{
+    let k = put_part(out, words, 0, words.len());
+    k + put_last(&mut out[k..], n)
+}
+
 fn put_record(out: &mut [u8], k: u64) -> usize
     requires { ⌜ Room (recordNumber k) (now out) ⌝ }
     ensures { λ r. ⌜ Put (recordNumber k) (now (out .entry)) r (now (out .exit)) ⌝ }
 {
-    let n = put_part(out, b" at record ", 0, 11);
-    n + put_last(&mut out[n..], k)
+    put_said(out, b" at record ", k)
 }
 
 fn put_refusal(out: &mut [u8], number: u8, k: u64) -> usize
@@ -72,8 +79,7 @@ pub(crate) fn put_too_long(out: &mut [u8], k: u64) -> usize
     requires { ⌜ Room (tooLongLine k) (now out) ⌝ }
     ensures { λ r. ⌜ Put (tooLongLine k) (now (out .entry)) r (now (out .exit)) ⌝ }
 {
-    let n = put_part(out, b"too long", 0, 8);
-    n + put_record(&mut out[n..], k)
+    put_said(out, b"too long at record ", k)
 }
 
 // `unfinished after record K`
@@ -81,8 +87,7 @@ pub(crate) fn put_unfinished(out: &mut [u8], k: u64) -> usize
     requires { ⌜ Room (unfinishedLine k) (now out) ⌝ }
     ensures { λ r. ⌜ Put (unfinishedLine k) (now (out .entry)) r (now (out .exit)) ⌝ }
 {
-    let n = put_part(out, b"unfinished after record ", 0, 24);
-    n + put_last(&mut out[n..], k)
+    put_said(out, b"unfinished after record ", k)
 }
 
 fn number_field(n: u32) -> Field
