@@ -19,8 +19,8 @@ slice-aggregate-say c = search needs
 say-requires : tie.Need-say-requires Inv-loop μ-loop
 say-requires c κs = search needs
 
-print-decimal-requires : tie.Need-print-decimal-requires Inv-loop μ-loop
-print-decimal-requires c κs = search needs
+say-number-requires : tie.Need-say-number-requires Inv-loop μ-loop
+say-number-requires c κs = search needs
 
 loop-holds : tie.Need-loop-holds Inv-loop μ-loop
 loop-holds c = search needs
@@ -54,7 +54,7 @@ say-rows-spec =
     μ-loop
     slice-aggregate-say
     say-requires
-    print-decimal-requires
+    say-number-requires
     loop-holds
     mul-say-row
     element-copy-out-say-row
