@@ -59,11 +59,14 @@ fn cell_of(key: u32) -> usize
 }
 
 // A guess as a rank, whatever it is.
-fn rank_in(guess: u16) -> usize {
+fn rank_in(guess: u16) -> usize
+    ensures { λ r. ⌜ r ≡ guess ⌝ }
+{
     guess as usize
 }
 
-// The rank of a key, looked for first where its guess says. Fewer guesses, or none, will do: then there is a search.
+// The rank of a key, looked for first where its guess says; a guess that was right is not written again. Fewer guesses, or
+// none, will do: then there is a search.
 fn find_row(keys: &[u64], used: usize, guesses: &mut [u16], cell: usize, key: u64) -> usize
     requires { ⌜ LentKeys (now keys) used ⌝ }
     ensures { λ r. ⌜ (r ≡ rank key (take used (now (keys .entry))))
@@ -72,8 +75,11 @@ fn find_row(keys: &[u64], used: usize, guesses: &mut [u16], cell: usize, key: u6
     if guesses.len() <= cell {
         return rank_among(keys, used, 1024, key);
     }
-    let at = rank_guessed(keys, used, 1024, rank_in(guesses[cell]), key);
-    guesses[cell] = at as u16;
+    let guess = rank_in(guesses[cell]);
+    let at = rank_guessed(keys, used, 1024, guess, key);
+    if at != guess {
+        guesses[cell] = at as u16;
+    }
     at
 }
 

@@ -21,13 +21,12 @@ pub use sound::nothing_yet;
 pub use sound::parts_right;
 pub use sound::stands_right;
 
-// A session but for its list of open parts, of which it has the number: what most records change, if anything. The
-// small fields stand together, so that no other is packed with one.
+// A session but for its list of open parts, of which it has the number: what most records change, if anything.
 pub struct Standing {
     pub place: Place,
     pub order: Order,
-    pub pcr: bool,
     pub opened: usize,
+    pub pcr: bool,
     pub results: u32,
 }
 

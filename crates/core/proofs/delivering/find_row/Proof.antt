@@ -1,9 +1,10 @@
--- `core::delivering::find_row` meets its contract: a guess that is there is noted anew, and where there is none the
+-- `core::delivering::find_row` meets its contract: a guess that was wrong is noted anew, and where there is none the
 -- guesses stay.
 -- Assumes nothing.
-use mathlib.Core.Path.{sym}
+use mathlib.Core.Path.{ap, sym, _∙_}
 use native.Mathlib.Omega.{arith}
-use lib.Seq.{set-out}
+use lib.ListN.{set}
+use lib.Seq.{set-out, set-getD}
 use denote.Ref.{now}
 use borrow.Author.Needs.{needs}
 use Rattle.rising.proofs.Steps.{kept-within}
@@ -13,15 +14,27 @@ use Rattle.core.proofs.delivering.find_row.Tie as tie
 returns : tie.Need-returns
 returns c = (c .rank-among .ensures, sym (set-out _ _ _ (c .before .if1 .taken)))
 
+abbrev start : tie.After-rank-guessed → tie.Start
+start c = c .before .before .before .before .before .before
+
 cast-guesses : tie.Need-cast-guesses
 cast-guesses c =
-    let start = c .before .before .before .before .before .before in
-    let l = start .pre in
+    let s = start (c .before) in
     omega (
       arith,
-      c .rank-guessed .ensures,
-      l .within,
-      kept-within (now (start .args .keys)) (start .args .used) (start .args .key) (omega (arith, l .long, l .within)),
+      c .before .rank-guessed .ensures,
+      s .pre .within,
+      kept-within (now (s .args .keys)) (s .args .used) (s .args .key) (omega (arith, s .pre .long, s .pre .within)),
+    )
+
+-- a guess that was right stands there already
+returns-3 : tie.Need-returns-3
+returns-3 c =
+    let ranked = c .before in
+    let a = start ranked .args in
+    let same = c .if2 .left ∙ ranked .before .rank-in .ensures in (
+      ranked .rank-guessed .ensures,
+      sym (ap (set (now (a .guesses)) (a .cell)) same ∙ set-getD (now (a .guesses)) (a .cell) 0),
     )
 
 -- ---- found by search
@@ -67,4 +80,5 @@ find-row-spec =
     mul-guesses
     slice-write-guesses
     same-length
-    returns-2)
+    returns-2
+    returns-3)
