@@ -23,11 +23,11 @@ use session::settle;
 ghost use mathlib.Core.Path.{_≡_};
 ghost use mathlib.Core.Bool.{true};
 ghost use Prim.Native.Nat.{_≤_, _<_};
-ghost use lib.ListN.{length};
-ghost use Rattle.house.specs.House.{sound, promised};
+ghost use lib.ListN.{length, getD, take};
+ghost use Rattle.house.specs.House.{sound, promised, noSlot, floorsLow, LentKeys};
 ghost use Rattle.house.specs.Deliver.{wantsRow, plainAnswer};
 ghost use Rattle.house.specs.Calls.{openSlot, closeSlot, deliver, figuresOf};
-ghost use Rattle.house.specs.Calls.{answered, slotAt, roomOf, deliveredTo, withOutcome};
+ghost use Rattle.house.specs.Calls.{answered, slotAt, roomIn, deliveredTo, withOutcome};
 
 fn answer_with(answer: Answer, house: House) -> Answered
     ensures { λ r. ⌜ r ≡ answered answer house ⌝ }
@@ -118,14 +118,13 @@ pub fn close_slot(house: House, slot: u32) -> Answered
     answer_with(Answer::Done, h)
 }
 
-// What a slot of a sound house sees of it.
-fn room_of(house: House, i: usize, s: Slot) -> Room
-    requires { ⌜ (sound house ≡ true) × (i < 16) × (s ≡ slotAt house i) ⌝ }
-    ensures { λ r. ⌜ (r ≡ roomOf house i) × (length (house .slots) ≡ 16) ⌝ }
+// What a slot sees of a house whose keys are lent.
+fn room_in(slots: [Slot; 16], keys: &[u64; 1024], used: usize, i: usize, s: Slot) -> Room
+    requires { ⌜ (i < 16) × (floorsLow slots ≡ true) × LentKeys (now keys) used × (s ≡ getD slots i noSlot) ⌝ }
+    ensures { λ r. ⌜ (r ≡ roomIn slots (take used (now (keys .entry))) i) × (length slots ≡ 16) ⌝ }
 {
-    let h = house;
-    let all = promised_by(h);
-    let own = unfilled_of(i, s, &h.keys, h.used);
+    let all = promised_of(slots, keys, used);
+    let own = unfilled_of(i, s, keys, used);
     Room {
         slot: i,
         floor: s.floor,
@@ -203,7 +202,8 @@ fn deliver_rows(house: House, i: usize, s: Slot, rec: &[u8]) -> Answered
     ensures { λ r. ⌜ r ≡ withOutcome house i (deliveredTo house i (now (rec .entry))) ⌝ }
 {
     let mut h = house;
-    let room = room_of(h, i, s);
+    let slots = h.slots;
+    let room = room_in(slots, &h.keys, h.used, i, s);
     let session = s.session;
     let mut parts = session.parts;
     let mut keys = h.keys;

@@ -78,7 +78,8 @@ fn taken_of(slots: [Slot; 16]) -> [bool; 16]
     taken
 }
 
-// The rows in use rise, and each is one that an open slot may hold.
+// The rows in use rise, and each is one that an open slot may hold. Each of the three tests asks what the one before it
+// found.
 fn rows_sound<'a>(
     taken: [bool; 16],
     keys: &'a [u64; 1024],
@@ -88,10 +89,13 @@ fn rows_sound<'a>(
     requires { ⌜ (length (now keys) ≡ 1024) × (length (now counts) ≡ 1024) × (used ≤ 1024) ⌝ }
     ensures { λ r. ⌜ r ≡ rowsSound taken (take used (now (keys .entry))) (take used (now (counts .entry))) ⌝ }
 {
-    if rising::is_rising(keys, used) {
-        return rows::rows_right(&taken, keys, counts, used);
+    if !rows::rows_fit(keys, counts, used) {
+        return false;
     }
-    false
+    if !rising::rises_below(keys, used) {
+        return false;
+    }
+    rows::rows_open(&taken, keys, used)
 }
 
 // Whether a house is sound whose rows are lent: a call that goes on with the house copies no row to test it. And that

@@ -15,9 +15,9 @@ use Rattle.words.proofs.Both.{both-left, both-right}
 use Rattle.answers.specs.declared.Answer.{Answer}
 use Rattle.answers.specs.declared.Answer.the-variants as answer
 use Rattle.rising.specs.Rising.{rising, allBelow}
-use Rattle.rows.specs.Rows.{slotCount, slotOf, heldBy, sumBy, rowRight, rowsRight}
+use Rattle.rows.specs.Rows.{slotCount, slotOf, heldBy, sumBy, rowsRight}
 use Rattle.rows.specs.Rows.{slotDropped, Rows, rows}
-use Rattle.rows.proofs.Laws.{count-within, row-taken}
+use Rattle.rows.proofs.Laws.{count-within, row-taken, right-at}
 use Rattle.session.specs.Session as session
 use Rattle.session.specs.Session.{mostResults}
 use Rattle.session.specs.declared.Session.{Session}
@@ -32,7 +32,7 @@ use Rattle.house.specs.House.{promisedFrom}
 use Rattle.house.specs.House.{promised, takenOf, rowsSound, slotSound, slotsSound, sound, Lent}
 use Rattle.house.specs.Deliver.{Outcome, core, delivered, wantsRow, plainAnswer, pastCounts}
 use Rattle.house.specs.Deliver.{LentCore}
-use Rattle.house.specs.Calls.{slotAt, withSlot, answered, openSlot, closeSlot, roomOf, deliveredTo}
+use Rattle.house.specs.Calls.{slotAt, withSlot, answered, openSlot, closeSlot, roomIn, roomOf, deliveredTo}
 use Rattle.house.specs.Calls.{withOutcome, deliver, figuresOf}
 use Rattle.house.proofs.Laws.{lent-of}
 use Rattle.house.proofs.Delivering.{settled-plain}
@@ -133,15 +133,6 @@ below-all : (b : ℕ) (xs : List ℕ) → ((i : ℕ) → i < length xs → getD 
 unfolding allBelow
 below-all b [] f = refl
 below-all b (x ∷ xs) f = rw (lt-ltb x b (f 0 (omega arith))) (below-all b xs (λ i h. f (suc i) (omega arith)))
-
-right-at : (taken : List Bool) (keys counts : List ℕ) (i : ℕ) → rowsRight taken keys counts ≡ true → i < length keys
-    → rowRight taken (getD keys i 0) (getD counts i 0) ≡ true
-unfolding rowsRight
-right-at taken [] cs i e h = absurd (omega arith)
-right-at taken (k ∷ ks) [] i e h = let never : _≡_ {A = ℕ} 0 1 = cc in absurd (omega arith)
-right-at taken (k ∷ ks) (c ∷ cs) zero e h = both-left (rowRight taken k c) (rowsRight taken ks cs) e
-right-at taken (k ∷ ks) (c ∷ cs) (suc i) e h =
-    right-at taken ks cs i (both-right (rowRight taken k c) (rowsRight taken ks cs) e) (omega arith)
 
 module _ (h : House) (e : sound h ≡ true) (long : length (h .keys) ≡ rowCount) (paired : length (h .counts) ≡ rowCount)
     (slots-long : length (h .slots) ≡ slotCount) where
@@ -290,10 +281,14 @@ module _ (h : House) (slot : ℕ) (rec : List ℕ) where
 
 -- ---- what is lent to a delivery
 
-module _ (h : House) (slot : ℕ) (s : Slot) (is : s ≡ slotAt h slot) where
-  pub room-is : (all own : ℕ) → all ≡ promised h → own ≡ unfilled slot s (keysOf h)
-      → record { slot = slot; floor = s .floor; others = all - own } ≡ roomOf h slot
-  room-is all own a o = rw (a, o, is)
+module _ (slots : List Slot) (keys : List ℕ) (slot : ℕ) (s : Slot) (is : s ≡ getD slots slot noSlot) (all own : ℕ)
+    (told : all ≡ promisedFrom 0 slots keys) (seen : own ≡ unfilled slot s keys) where
+  pub room-is : record { slot = slot; floor = s .floor; others = all - own } ≡ roomIn slots keys slot
+  room-is = rw (told, seen, is)
+
+  pub own-within : slot < length slots → own ≤ all
+  own-within inside =
+      rw (told, seen, is) (rw (zero-add slot) at (unfilled-within 0 slots keys slot noSlot inside))
 
 -- an open slot of a sound house lends its session and all rows
 -- an open slot's session is sound

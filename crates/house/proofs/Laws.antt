@@ -1,7 +1,7 @@
 -- Laws of the house's definitions, as the functions' proofs cite them.
 -- Assumes nothing.
 use mathlib.Core.Path.{_≡_, refl, sym, _∙_}
-use mathlib.Core.Bool.{Bool, true, false, cond, _&&_}
+use mathlib.Core.Bool.{Bool, true, false, cond, _&&_, and-true, and-false}
 use mathlib.Core.List.{List, [], _∷_}
 use Prim.Native.Nat.{ℕ, zero, suc, _+_, _-_, _≤_, _<_}
 use native.Mathlib.Numerals.{add-one}
@@ -12,7 +12,8 @@ use lib.ListN.{length, getD, take, drop, set, drop-of-length-le, length-map, Lis
 use lib.Seq.{drop-cons, take-suc-set, take-suc}
 use Rattle.words.proofs.Both.{both-left, both-right}
 use Rattle.rising.specs.Rising.{rising}
-use Rattle.rows.specs.Rows.{heldBy, sumBy, rowsRight, Kept}
+use Rattle.rows.specs.Rows.{heldBy, sumBy, rowsRight, rowsOpen, rowsFit, Kept}
+use Rattle.rows.proofs.Laws.{right-apart}
 use Rattle.session.specs.Session as session
 use Rattle.session.specs.Session.{nothingYet, mostResults}
 use Rattle.house.specs.declared.Slot.{Slot}
@@ -162,9 +163,15 @@ module _ (taken : List Bool) (keys counts : List ℕ) where
   unfolding rowsSound
   rows-fall e = rw e
 
-  pub rows-rise : rising keys ≡ true → rowsSound taken keys counts ≡ rowsRight taken keys counts
+  pub rows-unfit : rowsFit keys counts ≡ false → rowsSound taken keys counts ≡ false
   unfolding rowsSound
-  rows-rise e = rw e
+  rows-unfit e =
+      rw (right-apart taken keys counts, e, and-false (rowsOpen taken keys)) (and-false (rising keys))
+
+  pub rows-rise : rising keys ≡ true → rowsFit keys counts ≡ true
+      → rowsSound taken keys counts ≡ rowsOpen taken keys
+  unfolding rowsSound
+  rows-rise e fit = rw (e, right-apart taken keys counts, fit) (and-true (rowsOpen taken keys))
 
 -- ---- soundness, whole
 

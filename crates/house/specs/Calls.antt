@@ -17,7 +17,8 @@ use Rattle.house.specs.declared.House.{House}
 use Rattle.house.specs.declared.Room.{Room}
 use Rattle.house.specs.declared.Answered.{Answered}
 use Rattle.house.specs.declared.Figures.{Figures}
-use Rattle.house.specs.House.{rowCount, noSlot, closedSlot, openedSlot, keysOf, free, unfilled, promised, sound}
+use Rattle.house.specs.House.{rowCount, noSlot, closedSlot, openedSlot, keysOf, free, unfilled}
+use Rattle.house.specs.House.{promisedFrom, promised, sound}
 use Rattle.house.specs.Deliver.{Outcome, core, delivered}
 
 abbrev pub slotAt : House → ℕ → Slot
@@ -59,14 +60,14 @@ closeSlot h slot =
     answered SlotClosed h unless slotAt h slot .taken then
     answered Done (closed h slot)
 
--- what a slot sees of the house: its floor, and the rows promised to all others
+-- what a slot sees of a house with these slots and rows: its floor, and the rows promised to all others
+abbrev pub roomIn : List Slot → List ℕ → ℕ → Room
+roomIn slots keys slot =
+    let s = getD slots slot noSlot in
+    record { slot = slot; floor = s .floor; others = promisedFrom 0 slots keys - unfilled slot s keys }
+
 abbrev pub roomOf : House → ℕ → Room
-roomOf h slot =
-    record {
-      slot = slot;
-      floor = slotAt h slot .floor;
-      others = promised h - unfilled slot (slotAt h slot) (keysOf h);
-    }
+roomOf h slot = roomIn (h .slots) (keysOf h) slot
 
 -- what a record does to a slot's session and to the rows
 abbrev pub deliveredTo : House → ℕ → List ℕ → Outcome

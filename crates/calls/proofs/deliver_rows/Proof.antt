@@ -5,7 +5,9 @@ use mathlib.Core.Path.{_≡_, _∙_}
 use lib.ListN.{length}
 use denote.Ref.{now}
 use borrow.Author.Needs.{needs}
-use Rattle.house.proofs.Calling.{lent-to, laid-back}
+use Rattle.house.specs.House.{keysOf, countsOf}
+use Rattle.house.proofs.Laws.{floors-low, lent-keys}
+use Rattle.house.proofs.Calling.{told-slots, told-lent, lent-to, laid-back}
 use Rattle.calls.proofs.deliver_rows.Statement.{statement}
 use Rattle.calls.proofs.deliver_rows.Tie as tie
 
@@ -18,11 +20,21 @@ paired c = search needs
 long : (c : tie.Start) → length (c .args .house .keys) ≡ 1024
 long c = search needs
 
+room-in-requires : tie.Need-room-in-requires
+room-in-requires c κs =
+    let start = c .before .before .before .before in
+    let h = start .args .house in (
+      start .pre .1,
+      floors-low 0 (h .slots) (keysOf h) (countsOf h) (told-slots h (start .pre .0)),
+      lent-keys _ _ _ (told-lent h (start .pre .0) (long start) (paired start)),
+      start .pre .2,
+    )
+
 deliver-lent-requires : tie.Need-deliver-lent-requires
 deliver-lent-requires c κs =
     let roomy = c .before .before .before .before .before .before .before .before .before in
-    let start = roomy .before .before in
-    let room = roomy .room-of .ensures in
+    let start = roomy .before .before .before .before .before in
+    let room = roomy .room-in .ensures in
     lent-to (start .args .house) (start .args .i) (start .pre .2) (room .0) (start .pre .0) (long start) (paired start)
     (room .1) (start .pre .1) (start .pre .3) (cells start)
 
@@ -30,16 +42,13 @@ returns : tie.Need-returns
 returns c =
     let did = c .before .before .before .before .before .before in
     let roomy = did .before .before .before .before .before .before .before .before .before .before in
-    let start = roomy .before .before in
-    let room = roomy .room-of .ensures in
+    let start = roomy .before .before .before .before .before in
+    let room = roomy .room-in .ensures in
     c .answer-with .ensures
     ∙ laid-back (start .args .house) (start .args .i) (start .pre .2) (room .0) (now (start .args .rec)) _
     (did .deliver-lent .ensures .0)
 
 -- ---- found by search
-
-room-of-requires : tie.Need-room-of-requires
-room-of-requires c κs = search needs
 
 slice-aggregate-deliver-lent : tie.Need-slice-aggregate-deliver-lent
 slice-aggregate-deliver-lent c = search needs
@@ -53,8 +62,8 @@ slice-aggregate-deliver-lent-3 c = search needs
 slice-aggregate-deliver-lent-4 : tie.Need-slice-aggregate-deliver-lent-4
 slice-aggregate-deliver-lent-4 c = search needs
 
-mul-t23 : tie.Need-mul-t23
-mul-t23 c = search needs
+mul-t19 : tie.Need-mul-t19
+mul-t19 c = search needs
 
 element-set-from-h : tie.Need-element-set-from-h
 element-set-from-h c = search needs
@@ -66,13 +75,13 @@ pub deliver-rows-spec : {M : Type 1} → statement M
 deliver-rows-spec =
     tie.close
     (tie.spec
-    room-of-requires
+    room-in-requires
     slice-aggregate-deliver-lent
     slice-aggregate-deliver-lent-2
     slice-aggregate-deliver-lent-3
     slice-aggregate-deliver-lent-4
     deliver-lent-requires
-    mul-t23
+    mul-t19
     element-set-from-h
     answer-with-requires
     returns)

@@ -2,6 +2,7 @@
 -- Assumes nothing.
 use mathlib.Core.Path.{ap, sym, subst, _∙_}
 use Prim.Native.Nat.{ℕ, _≤_}
+use native.Mathlib.Omega.{arith}
 use lib.Dec.{eqb}
 use borrow.Author.Needs.{needs}
 use borrow.Author.Tests.{not-true, not-false}
@@ -28,7 +29,8 @@ returns-4 c =
 sum-is-requires : tie.Need-sum-is-requires
 sum-is-requires c κs =
     let start = c .before .before .before .before .before .before .before .before .before .before .before in
-    (start .pre .0, lent-kept _ _ _ (start .pre .1))
+    let lent = start .pre .1 in
+    (start .pre .0, omega (arith, lent .within), lent-kept _ _ _ lent)
 
 returns-5 : tie.Need-returns-5
 returns-5 c =
