@@ -5,8 +5,8 @@ mod reports;
 use answers::Answer;
 use core::deliver_lent;
 use core::is_sound;
-use core::is_sound_lent;
-use core::promised_of;
+use core::soundness_lent;
+use core::soundness_of;
 use core::unfilled_of;
 use house::Answered;
 use house::Figures;
@@ -22,12 +22,12 @@ use session::judge_lent;
 use session::settle;
 ghost use mathlib.Core.Path.{_≡_};
 ghost use mathlib.Core.Bool.{true};
-ghost use Prim.Native.Nat.{_≤_, _<_};
-ghost use lib.ListN.{length, getD, take};
-ghost use Rattle.house.specs.House.{sound, promised, noSlot, floorsLow, LentKeys};
+ghost use Prim.Native.Nat.{_<_};
+ghost use lib.ListN.{length};
+ghost use Rattle.house.specs.House.{sound, promised};
 ghost use Rattle.house.specs.Deliver.{wantsRow, plainAnswer};
 ghost use Rattle.house.specs.Calls.{openSlot, closeSlot, deliver, figuresOf};
-ghost use Rattle.house.specs.Calls.{answered, slotAt, roomIn, deliveredTo, withOutcome};
+ghost use Rattle.house.specs.Calls.{answered, slotAt, deliveredTo, withOutcome};
 
 fn answer_with(answer: Answer, house: House) -> Answered
     ensures { λ r. ⌜ r ≡ answered answer house ⌝ }
@@ -35,21 +35,12 @@ fn answer_with(answer: Answer, house: House) -> Answered
     Answered { answer, house }
 }
 
-// The rows promised by a sound house.
-fn promised_by(house: House) -> u32
-    requires { ⌜ sound house ≡ true ⌝ }
-    ensures { λ r. ⌜ (r ≡ promised house) × (r ≤ 1024) × (length (house .slots) ≡ 16) ⌝ }
-{
-    let h = house;
-    let slots = h.slots;
-    promised_of(slots, &h.keys, h.used)
-}
-
 // Opens a slot with a floor.
 pub fn open_slot(house: House, slot: u32, floor: u32) -> Answered
     ensures { λ r. ⌜ r ≡ openSlot house slot floor ⌝ }
 {
-    if !is_sound(house) {
+    let told = soundness_of(house);
+    if !told.sound {
         return answer_with(Answer::NotSound, house);
     }
     if 16 <= slot {
@@ -65,7 +56,7 @@ pub fn open_slot(house: House, slot: u32, floor: u32) -> Answered
         return answer_with(Answer::SlotTaken, h);
     }
     let free = 1024 - h.used as u32;
-    if free - promised_by(h) < floor {
+    if free - told.promised < floor {
         return answer_with(Answer::NoRoom, h);
     }
     h.slots[i] = Slot::opened(floor);
@@ -76,13 +67,13 @@ pub fn open_slot(house: House, slot: u32, floor: u32) -> Answered
 pub fn figures(house: House) -> Figures
     ensures { λ r. ⌜ r ≡ figuresOf house ⌝ }
 {
-    if is_sound(house) {
+    let told = soundness_of(house);
+    if told.sound {
         let free = 1024 - house.used as u32;
-        let promised = promised_by(house);
         return Figures {
             answer: Answer::Done,
             free,
-            promised,
+            promised: told.promised,
         };
     }
     Figures {
@@ -118,27 +109,14 @@ pub fn close_slot(house: House, slot: u32) -> Answered
     answer_with(Answer::Done, h)
 }
 
-// What a slot sees of a house whose keys are lent.
-fn room_in(slots: [Slot; 16], keys: &[u64; 1024], used: usize, i: usize, s: Slot) -> Room
-    requires { ⌜ (i < 16) × (floorsLow slots ≡ true) × LentKeys (now keys) used × (s ≡ getD slots i noSlot) ⌝ }
-    ensures { λ r. ⌜ (r ≡ roomIn slots (take used (now (keys .entry))) i) × (length slots ≡ 16) ⌝ }
-{
-    let all = promised_of(slots, keys, used);
-    let own = unfilled_of(i, s, keys, used);
-    Room {
-        slot: i,
-        floor: s.floor,
-        others: all - own,
-    }
-}
-
 // Delivers one record to a slot.
 pub fn deliver(house: House, slot: u32, rec: &[u8]) -> Answered
     ensures { λ r. ⌜ r ≡ deliver house slot (now (rec .entry)) ⌝ }
 {
     let h = house;
     let slots = h.slots;
-    if !is_sound_lent(slots, &h.keys, &h.counts, h.used) {
+    let told = soundness_lent(slots, &h.keys, &h.counts, h.used);
+    if !told.sound {
         return answer_with(Answer::NotSound, h);
     }
     if 16 <= slot {
@@ -149,7 +127,7 @@ pub fn deliver(house: House, slot: u32, rec: &[u8]) -> Answered
     if !s.taken {
         return answer_with(Answer::SlotClosed, h);
     }
-    deliver_to(h, i, s, rec)
+    deliver_to(h, told.promised, i, s, rec)
 }
 
 fn wants_row(verdict: Verdict) -> bool
@@ -174,10 +152,11 @@ fn plain_answer(verdict: Verdict) -> Answer
     }
 }
 
-// .. to an open slot of a sound house. A record that asks for no row is settled in the slot, and no row is touched.
-fn deliver_to(house: House, i: usize, s: Slot, rec: &[u8]) -> Answered
+// .. to an open slot of a sound house, of which the test has told how many rows it owes. A record that asks for no row
+// is settled in the slot, and no row is touched.
+fn deliver_to(house: House, owed: u32, i: usize, s: Slot, rec: &[u8]) -> Answered
     requires { ⌜ (sound house ≡ true) × (i < 16) × (s ≡ slotAt house i) × (s .taken ≡ true)
-        × (length (house .slots) ≡ 16) ⌝ }
+        × (length (house .slots) ≡ 16) × (owed ≡ promised house) ⌝ }
     ensures { λ r. ⌜ r ≡ withOutcome house i (deliveredTo house i (now (rec .entry))) ⌝ }
 {
     let mut h = house;
@@ -185,7 +164,7 @@ fn deliver_to(house: House, i: usize, s: Slot, rec: &[u8]) -> Answered
     let parts = session.parts;
     let verdict = judge_lent(session.standing, &parts, rec);
     if wants_row(verdict) {
-        return deliver_rows(h, i, s, rec);
+        return deliver_rows(h, owed, i, s, rec);
     }
     let next = settle(session, verdict);
     h.slots[i] = Slot {
@@ -197,13 +176,18 @@ fn deliver_to(house: House, i: usize, s: Slot, rec: &[u8]) -> Answered
 }
 
 // .. where rows are asked for: the rows and the parts are lent, and laid back. One call has nothing to guess by.
-fn deliver_rows(house: House, i: usize, s: Slot, rec: &[u8]) -> Answered
-    requires { ⌜ (sound house ≡ true) × (i < 16) × (s ≡ slotAt house i) × (s .taken ≡ true) ⌝ }
+fn deliver_rows(house: House, owed: u32, i: usize, s: Slot, rec: &[u8]) -> Answered
+    requires { ⌜ (sound house ≡ true) × (i < 16) × (s ≡ slotAt house i) × (s .taken ≡ true)
+        × (length (house .slots) ≡ 16) × (owed ≡ promised house) ⌝ }
     ensures { λ r. ⌜ r ≡ withOutcome house i (deliveredTo house i (now (rec .entry))) ⌝ }
 {
     let mut h = house;
-    let slots = h.slots;
-    let room = room_in(slots, &h.keys, h.used, i, s);
+    let own = unfilled_of(i, s, &h.keys, h.used);
+    let room = Room {
+        slot: i,
+        floor: s.floor,
+        others: owed - own,
+    };
     let session = s.session;
     let mut parts = session.parts;
     let mut keys = h.keys;

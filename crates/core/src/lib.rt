@@ -5,7 +5,7 @@ mod rooms;
 mod sound;
 
 pub use delivering::deliver_lent;
-pub use rooms::promised_of;
 pub use rooms::unfilled_of;
 pub use sound::is_sound;
-pub use sound::is_sound_lent;
+pub use sound::soundness_lent;
+pub use sound::soundness_of;

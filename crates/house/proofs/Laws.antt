@@ -1,12 +1,12 @@
 -- Laws of the house's definitions, as the functions' proofs cite them.
 -- Assumes nothing.
-use mathlib.Core.Path.{_≡_, refl, sym, _∙_}
-use mathlib.Core.Bool.{Bool, true, false, cond, _&&_, and-true, and-false}
-use mathlib.Core.List.{List, [], _∷_}
-use Prim.Native.Nat.{ℕ, zero, suc, _+_, _-_, _≤_, _<_}
+use mathlib.Core.Path.{_≡_, sym, ap, _∙_}
+use mathlib.Core.Bool.{Bool, true, false, _&&_, and-true, and-false}
+use mathlib.Core.List.{List}
+use Prim.Native.Nat.{ℕ, _+_, _-_, _≤_, _<_}
 use native.Mathlib.Numerals.{add-one}
 use native.Mathlib.Omega.{arith}
-use borrow.Author.Tests.{le-leb, lt-leb, leb-true, eqb-true, eq-eqb, ne-eqb}
+use borrow.Author.Tests.{le-leb, lt-leb, eq-eqb, ne-eqb}
 use lib.Dec.{eqb, leb}
 use lib.ListN.{length, getD, take, drop, set, drop-of-length-le, length-map, List·getD-map}
 use lib.Seq.{drop-cons, take-suc-set, take-suc}
@@ -18,8 +18,10 @@ use Rattle.session.specs.Session as session
 use Rattle.session.specs.Session.{nothingYet, mostResults}
 use Rattle.house.specs.declared.Slot.{Slot}
 use Rattle.house.specs.declared.House.{House}
-use Rattle.house.specs.House.{rowCount, keysOf, countsOf, free, unfilled, promisedFrom, promised, floorsLow}
-use Rattle.house.specs.House.{takenOf, rowsSound, slotSound, slotsSound, sound, LentKeys, Lent}
+use Rattle.house.specs.declared.Soundness.{Soundness}
+use Rattle.house.specs.House.{rowCount, keysOf, countsOf, free, unfilled, promisedFrom, promised}
+use Rattle.house.specs.House.{takenOf, rowsSound, slotSound, slotsSound, sound, unsound, soundness, LentKeys}
+use Rattle.house.specs.House.{Lent}
 
 -- ---- rows promised
 
@@ -37,14 +39,6 @@ module _ (i : ℕ) (s : Slot) (keys : List ℕ) where
     unfolding unfilled
     unfilled-some h = rw (open-there, ← is)
 
-  pub unfilled-low : s .floor ≤ rowCount → unfilled i s keys ≤ rowCount
-  unfolding unfilled
-  unfilled-low h = go (s .taken)
-    where
-      go : (t : Bool) → cond t (s .floor - heldBy i keys) 0 ≤ rowCount
-      go true = omega arith
-      go false = omega arith
-
 module _ (slots : List Slot) (keys : List ℕ) (i : ℕ) (none : Slot) where
   pub promised-on : i < length slots
       → promisedFrom i (drop i slots) keys
@@ -55,15 +49,6 @@ module _ (slots : List Slot) (keys : List ℕ) (i : ℕ) (none : Slot) where
   pub promised-none : length slots ≤ i → promisedFrom i (drop i slots) keys ≡ 0
   unfolding promisedFrom
   promised-none h = rw (drop-of-length-le slots {i = i} h)
-
-pub floor-at : (slots : List Slot) (i : ℕ) (none : Slot) → floorsLow slots ≡ true → i < length slots
-    → getD slots i none .floor ≤ rowCount
-unfolding floorsLow
-floor-at [] i none e h = absurd (omega arith)
-floor-at (s ∷ ss) zero none e h =
-    leb-true (s .floor) rowCount (both-left (leb (s .floor) rowCount) (floorsLow ss) e)
-floor-at (s ∷ ss) (suc i) none e h =
-    floor-at ss i none (both-right (leb (s .floor) rowCount) (floorsLow ss) e) (omega arith)
 
 -- ---- which slots are open
 
@@ -111,67 +96,33 @@ module _ (i : ℕ) (s : Slot) (keys counts : List ℕ) where
 
 module _ (slots : List Slot) (keys counts : List ℕ) (i : ℕ) (none : Slot) where
   module _ (h : i < length slots) where
-    pub slots-on : slotSound i (getD slots i none) keys counts ≡ true
-        → slotsSound i (drop i slots) keys counts ≡ slotsSound (i + 1) (drop (i + 1) slots) keys counts
+    pub slots-on : slotsSound i (drop i slots) keys counts
+        ≡ (slotSound i (getD slots i none) keys counts && slotsSound (i + 1) (drop (i + 1) slots) keys counts)
     unfolding slotsSound
-    slots-on e = rw (drop-cons slots i none h, e, add-one i)
-
-    pub slots-not : slotSound i (getD slots i none) keys counts ≡ false
-        → slotsSound i (drop i slots) keys counts ≡ false
-    unfolding slotsSound
-    slots-not e = rw (drop-cons slots i none h, e)
+    slots-on = rw (drop-cons slots i none h, add-one i)
 
   pub slots-done : length slots ≤ i → slotsSound i (drop i slots) keys counts ≡ true
   unfolding slotsSound
   slots-done h = rw (drop-of-length-le slots {i = i} h)
 
--- sound slots have floors of at most 1,024
-slot-floor : (i : ℕ) (s : Slot) (keys counts : List ℕ) → slotSound i s keys counts ≡ true → s .floor ≤ rowCount
-unfolding slotSound
-slot-floor i s keys counts e = go (s .taken) e
-  where
-    go : (t : Bool)
-        → cond t
-        (leb (s .floor) rowCount
-        && (session.sound (s .session)
-        && (leb (s .session .standing .results) mostResults
-        && eqb (sumBy i keys counts) (s .session .standing .results))))
-        (eqb (s .floor) 0 && nothingYet (s .session .standing))
-        ≡ true
-        → s .floor ≤ rowCount
-    go true f =
-        leb-true (s .floor) rowCount
-        (both-left (leb (s .floor) rowCount)
-        (session.sound (s .session)
-        && (leb (s .session .standing .results) mostResults
-        && eqb (sumBy i keys counts) (s .session .standing .results))) f)
-    go false f =
-        omega (arith, eqb-true (s .floor) 0 (both-left (eqb (s .floor) 0) (nothingYet (s .session .standing)) f))
-
-pub floors-low : (i : ℕ) (slots : List Slot) (keys counts : List ℕ) → slotsSound i slots keys counts ≡ true
-    → floorsLow slots ≡ true
-unfolding slotsSound floorsLow
-floors-low i [] keys counts e = refl
-floors-low i (s ∷ ss) keys counts e =
-    let here = both-left (slotSound i s keys counts) (slotsSound (suc i) ss keys counts) e in
-    rw (le-leb (s .floor) rowCount (slot-floor i s keys counts here))
-    (floors-low (suc i) ss keys counts
-    (both-right (slotSound i s keys counts) (slotsSound (suc i) ss keys counts) e))
-
 module _ (taken : List Bool) (keys counts : List ℕ) where
-  pub rows-fall : rising keys ≡ false → rowsSound taken keys counts ≡ false
+  pub rows-not : (rowsFit keys counts && rising keys) ≡ false → rowsSound taken keys counts ≡ false
   unfolding rowsSound
-  rows-fall e = rw e
+  rows-not e = rw (right-apart taken keys counts) (go (rowsFit keys counts) (rising keys) (rowsOpen taken keys) e)
+    where
+      go : (fit rise shut : Bool) → (fit && rise) ≡ false → (rise && (shut && fit)) ≡ false
+      go true rise shut f = rw f
+      go false rise shut f = rw (and-false shut) (and-false rise)
 
-  pub rows-unfit : rowsFit keys counts ≡ false → rowsSound taken keys counts ≡ false
+  pub rows-are : (rowsFit keys counts && rising keys) ≡ true → rowsSound taken keys counts ≡ rowsOpen taken keys
   unfolding rowsSound
-  rows-unfit e =
-      rw (right-apart taken keys counts, e, and-false (rowsOpen taken keys)) (and-false (rising keys))
-
-  pub rows-rise : rising keys ≡ true → rowsFit keys counts ≡ true
-      → rowsSound taken keys counts ≡ rowsOpen taken keys
-  unfolding rowsSound
-  rows-rise e fit = rw (e, right-apart taken keys counts, fit) (and-true (rowsOpen taken keys))
+  rows-are e =
+      rw (
+        right-apart taken keys counts,
+        both-left (rowsFit keys counts) (rising keys) e,
+        both-right (rowsFit keys counts) (rising keys) e,
+      )
+      (and-true (rowsOpen taken keys))
 
 -- ---- soundness, whole
 
@@ -185,15 +136,34 @@ module _ (h : House) where
     unfolding sound
     sound-rows e = rw (le-leb (h .used) rowCount within, e)
 
-    module _ (rows : rowsSound (takenOf (h .slots)) (keysOf h) (countsOf h) ≡ true) where
-      pub sound-slots : slotsSound 0 (h .slots) (keysOf h) (countsOf h) ≡ false → sound h ≡ false
-      unfolding sound
-      sound-slots e = rw (le-leb (h .used) rowCount within, rows, e)
+    pub sound-slots : slotsSound 0 (h .slots) (keysOf h) (countsOf h) ≡ false → sound h ≡ false
+    unfolding sound
+    sound-slots e =
+        rw (le-leb (h .used) rowCount within, e) (and-false (rowsSound (takenOf (h .slots)) (keysOf h) (countsOf h)))
 
-      pub sound-rooms : slotsSound 0 (h .slots) (keysOf h) (countsOf h) ≡ true
-          → sound h ≡ leb (promised h) (free h)
-      unfolding sound
-      sound-rooms e = rw (le-leb (h .used) rowCount within, rows, e)
+    pub sound-rooms : rowsSound (takenOf (h .slots)) (keysOf h) (countsOf h) ≡ true
+        → slotsSound 0 (h .slots) (keysOf h) (countsOf h) ≡ true → sound h ≡ leb (promised h) (free h)
+    unfolding sound
+    sound-rooms rows e = rw (le-leb (h .used) rowCount within, rows, e)
+
+-- ---- what a test of soundness tells
+
+module _ (h : House) where
+  pub tells-unsound : sound h ≡ false → unsound ≡ soundness h
+  tells-unsound e = rw e
+
+  pub tells-sound : (n : ℕ) → sound h ≡ true → n ≡ promised h → record { sound = true; promised = n } ≡ soundness h
+  tells-sound n e is = rw (e, is)
+
+  module _ (s : Soundness) (told : s ≡ soundness h) where
+    pub told-unsound : s .sound ≡ false → sound h ≡ false
+    told-unsound e = sym (ap (λ (t : Soundness). t .sound) told) ∙ e
+
+    pub told-sound : s .sound ≡ true → sound h ≡ true
+    told-sound e = sym (ap (λ (t : Soundness). t .sound) told) ∙ e
+
+    pub told-promised : s .sound ≡ true → s .promised ≡ promised h
+    told-promised e = ap (λ (t : Soundness). t .promised) told ∙ rw (told-sound e)
 
 -- ---- what is lent
 

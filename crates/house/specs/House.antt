@@ -3,7 +3,7 @@
 --   closedSlot, openedSlot, fresh   a slot that holds nothing, one just opened, a house of the first alone
 --   keysOf, countsOf                the rows in use
 --   free, promised                  how many rows no session holds, and how many are still owed
---   sound                           document 01's conditions on a sound house
+--   sound, soundness                document 01's conditions on a sound house, and what a test of them tells
 -- Assumes nothing.
 use Prim.Native.Nat.{ℕ, suc, _+_, _-_, _≤_}
 use mathlib.Core.Path.{_≡_}
@@ -17,6 +17,7 @@ use Rattle.session.specs.Session as session
 use Rattle.session.specs.Session.{begun, nothingYet, mostResults}
 use Rattle.house.specs.declared.Slot.{Slot}
 use Rattle.house.specs.declared.House.{House}
+use Rattle.house.specs.declared.Soundness.{Soundness}
 
 -- a house has 16 slots and 1,024 rows; a floor is 0 to 1,024
 abbrev pub rowCount : ℕ
@@ -65,11 +66,6 @@ promisedFrom i (s ∷ ss) keys = unfilled i s keys + promisedFrom (suc i) ss key
 abbrev pub promised : House → ℕ
 promised h = promisedFrom 0 (h .slots) (keysOf h)
 
--- floors are at most 1,024
-unfoldable pub floorsLow : List Slot → Bool
-floorsLow [] = true
-floorsLow (s ∷ ss) = leb (s .floor) rowCount && floorsLow ss
-
 -- ---- a sound house
 
 abbrev pub takenOf : List Slot → List Bool
@@ -100,6 +96,13 @@ sound h =
     leb (h .used) rowCount
     && (rowsSound (takenOf (h .slots)) (keysOf h) (countsOf h)
     && (slotsSound 0 (h .slots) (keysOf h) (countsOf h) && leb (promised h) (free h)))
+
+-- what a test of it tells: whether it is sound, and the rows promised, 0 where it is not
+abbrev pub unsound : Soundness
+unsound = record { sound = false; promised = 0 }
+
+abbrev pub soundness : House → Soundness
+soundness h = record { sound = sound h; promised = cond (sound h) (promised h) 0 }
 
 -- ---- what is lent
 

@@ -22,6 +22,12 @@ pub struct House {
     pub slots: [Slot; 16],
 }
 
+// What a test of a house tells: whether it is sound, and how many rows are promised, 0 where it is not.
+pub struct Soundness {
+    pub sound: bool,
+    pub promised: u32,
+}
+
 // The answer of a call, and the house after it.
 pub struct Answered {
     pub answer: Answer,

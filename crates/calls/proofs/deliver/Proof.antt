@@ -4,20 +4,31 @@ use mathlib.Core.Path.{_≡_, sym, _∙_, refl}
 use mathlib.Core.Bool.{true}
 use borrow.Author.Needs.{needs}
 use borrow.Author.Tests.{not-true, not-false}
-use Rattle.house.specs.House.{sound}
+use Rattle.house.specs.House.{sound, promised}
+use Rattle.house.proofs.Laws.{told-sound, told-unsound, told-promised}
 use Rattle.house.proofs.Calling.{deliver-unsound, deliver-no-slot, deliver-shut, deliver-judged}
 use Rattle.calls.proofs.deliver.Statement.{statement}
 use Rattle.calls.proofs.deliver.Tie as tie
 
-sounded : (c : tie.Else1) → (let start = c .before .before .before .before .before .before .before in
-    sound (start .args .house) ≡ true)
-sounded c = sym (c .before .is-sound-lent .ensures .0) ∙ not-false _ (c .if1 .left)
+-- what the test of the house told
+module _ (fine : tie.Else1) where
+  abbrev test : tie.After-soundness-lent
+  test = fine .before .before
+
+  abbrev start : tie.Start
+  start = test .before .before .before .before .before .before
+
+  sounded : sound (start .args .house) ≡ true
+  sounded = told-sound _ _ (test .soundness-lent .ensures .0) (not-false _ (fine .if1 .left))
+
+  owed : test .soundness-lent .result .promised ≡ promised (start .args .house)
+  owed = told-promised _ _ (test .soundness-lent .ensures .0) (not-false _ (fine .if1 .left))
 
 returns : tie.Need-returns
 returns c =
-    let tested = c .before .before in
+    let tested = c .before .before .before .soundness-lent in
     c .answer-with .ensures
-    ∙ sym (deliver-unsound _ _ _ (sym (tested .is-sound-lent .ensures .0) ∙ not-true _ (c .before .if1 .taken)))
+    ∙ sym (deliver-unsound _ _ _ (told-unsound _ _ (tested .ensures .0) (not-true _ (c .before .if1 .taken))))
 
 returns-2 : tie.Need-returns-2
 returns-2 c =
@@ -32,8 +43,14 @@ returns-3 c =
 deliver-to-requires : tie.Need-deliver-to-requires
 deliver-to-requires c κs =
     let inside = c .before .before .before in
-    let fine = inside .before in
-    (sounded fine, inside .if2 .left, refl, not-false _ (c .if3 .left), fine .before .is-sound-lent .ensures .1)
+    let fine = inside .before in (
+      sounded fine,
+      inside .if2 .left,
+      refl,
+      not-false _ (c .if3 .left),
+      test fine .soundness-lent .ensures .1,
+      owed fine,
+    )
 
 returns-4 : tie.Need-returns-4
 returns-4 c =
@@ -44,8 +61,8 @@ returns-4 c =
 
 -- ---- found by search
 
-is-sound-lent-requires : tie.Need-is-sound-lent-requires
-is-sound-lent-requires c κs = search needs
+soundness-lent-requires : tie.Need-soundness-lent-requires
+soundness-lent-requires c κs = search needs
 
 answer-with-requires : tie.Need-answer-with-requires
 answer-with-requires c κs = search needs
@@ -66,7 +83,7 @@ pub deliver-spec : {M : Type 1} → statement M
 deliver-spec =
     tie.close
     (tie.spec
-    is-sound-lent-requires
+    soundness-lent-requires
     answer-with-requires
     returns
     answer-with-requires-2

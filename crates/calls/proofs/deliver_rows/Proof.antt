@@ -2,12 +2,15 @@
 -- takes them back.
 -- Assumes nothing.
 use mathlib.Core.Path.{_≡_, _∙_}
+use Prim.Native.Nat.{_-_}
+use native.Mathlib.Omega.{arith}
 use lib.ListN.{length}
 use denote.Ref.{now}
 use borrow.Author.Needs.{needs}
-use Rattle.house.specs.House.{keysOf, countsOf}
-use Rattle.house.proofs.Laws.{floors-low, lent-keys}
-use Rattle.house.proofs.Calling.{told-slots, told-lent, lent-to, laid-back}
+use Rattle.house.specs.House.{keysOf}
+use Rattle.house.specs.Calls.{roomOf}
+use Rattle.house.proofs.Laws.{lent-keys}
+use Rattle.house.proofs.Calling.{told-lent, room-is, own-within, lent-to, laid-back}
 use Rattle.calls.proofs.deliver_rows.Statement.{statement}
 use Rattle.calls.proofs.deliver_rows.Tie as tie
 
@@ -20,32 +23,46 @@ paired c = search needs
 long : (c : tie.Start) → length (c .args .house .keys) ≡ 1024
 long c = search needs
 
-room-in-requires : tie.Need-room-in-requires
-room-in-requires c κs =
-    let start = c .before .before .before .before in
-    let h = start .args .house in (
-      start .pre .1,
-      floors-low 0 (h .slots) (keysOf h) (countsOf h) (told-slots h (start .pre .0)),
-      lent-keys _ _ _ (told-lent h (start .pre .0) (long start) (paired start)),
-      start .pre .2,
-    )
+-- what the slot sees of the house, once its own unfilled rows are known
+module _ (roomy : tie.After-unfilled-of) where
+  abbrev start : tie.Start
+  start = roomy .before .before .before .before
+
+  seen : record {
+    slot = start .args .i;
+    floor = start .args .s .floor;
+    others = start .args .owed - roomy .unfilled-of .result;
+  }
+      ≡ roomOf (start .args .house) (start .args .i)
+  seen =
+      room-is (start .args .house .slots) (keysOf (start .args .house)) (start .args .i) (start .args .s) (start .pre .2)
+      (start .args .owed) (roomy .unfilled-of .result) (start .pre .5) (roomy .unfilled-of .ensures)
+
+unfilled-of-requires : tie.Need-unfilled-of-requires
+unfilled-of-requires c κs =
+    let start = c .before .before .before in
+    (start .pre .1, lent-keys _ _ _ (told-lent (start .args .house) (start .pre .0) (long start) (paired start)))
+
+sub-t21 : tie.Need-sub-t21
+sub-t21 c =
+    let begun = start c in
+    own-within (begun .args .house .slots) (keysOf (begun .args .house)) (begun .args .i) _ (begun .pre .2) _ _
+    (begun .pre .5) (c .unfilled-of .ensures) (omega (arith, begun .pre .4, begun .pre .1))
 
 deliver-lent-requires : tie.Need-deliver-lent-requires
 deliver-lent-requires c κs =
     let roomy = c .before .before .before .before .before .before .before .before .before in
-    let start = roomy .before .before .before .before .before in
-    let room = roomy .room-in .ensures in
-    lent-to (start .args .house) (start .args .i) (start .pre .2) (room .0) (start .pre .0) (long start) (paired start)
-    (room .1) (start .pre .1) (start .pre .3) (cells start)
+    let begun = start roomy in
+    lent-to (begun .args .house) (begun .args .i) (begun .pre .2) (seen roomy) (begun .pre .0) (long begun) (paired begun)
+    (begun .pre .4) (begun .pre .1) (begun .pre .3) (cells begun)
 
 returns : tie.Need-returns
 returns c =
     let did = c .before .before .before .before .before .before in
     let roomy = did .before .before .before .before .before .before .before .before .before .before in
-    let start = roomy .before .before .before .before .before in
-    let room = roomy .room-in .ensures in
+    let begun = start roomy in
     c .answer-with .ensures
-    ∙ laid-back (start .args .house) (start .args .i) (start .pre .2) (room .0) (now (start .args .rec)) _
+    ∙ laid-back (begun .args .house) (begun .args .i) (begun .pre .2) (seen roomy) (now (begun .args .rec)) _
     (did .deliver-lent .ensures .0)
 
 -- ---- found by search
@@ -62,8 +79,8 @@ slice-aggregate-deliver-lent-3 c = search needs
 slice-aggregate-deliver-lent-4 : tie.Need-slice-aggregate-deliver-lent-4
 slice-aggregate-deliver-lent-4 c = search needs
 
-mul-t19 : tie.Need-mul-t19
-mul-t19 c = search needs
+mul-t20 : tie.Need-mul-t20
+mul-t20 c = search needs
 
 element-set-from-h : tie.Need-element-set-from-h
 element-set-from-h c = search needs
@@ -75,13 +92,14 @@ pub deliver-rows-spec : {M : Type 1} → statement M
 deliver-rows-spec =
     tie.close
     (tie.spec
-    room-in-requires
+    unfilled-of-requires
+    sub-t21
     slice-aggregate-deliver-lent
     slice-aggregate-deliver-lent-2
     slice-aggregate-deliver-lent-3
     slice-aggregate-deliver-lent-4
     deliver-lent-requires
-    mul-t19
+    mul-t20
     element-set-from-h
     answer-with-requires
     returns)

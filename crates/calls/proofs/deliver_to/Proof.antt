@@ -66,8 +66,8 @@ deliver-rows-requires c κs = search needs
 returns : tie.Need-returns
 returns c = search needs
 
-mul-t15 : tie.Need-mul-t15
-mul-t15 c = search needs
+mul-t16 : tie.Need-mul-t16
+mul-t16 c = search needs
 
 element-set-from-h : tie.Need-element-set-from-h
 element-set-from-h c = search needs
@@ -88,7 +88,7 @@ deliver-to-spec =
     deliver-rows-requires
     returns
     settle-requires
-    mul-t15
+    mul-t16
     element-set-from-h
     plain-answer-requires
     answer-with-requires

@@ -6,19 +6,29 @@ use Prim.Native.Nat.{ℕ, _-_, _≤_, _<_}
 use native.Mathlib.Omega.{arith}
 use borrow.Author.Needs.{needs}
 use borrow.Author.Tests.{not-true, not-false}
-use Rattle.house.specs.House.{sound}
+use Rattle.house.specs.House.{sound, promised}
+use Rattle.house.proofs.Laws.{told-sound, told-unsound, told-promised}
 use Rattle.house.proofs.Calling.{told-within, told-rooms, open-unsound, open-no-slot, open-high, open-taken}
 use Rattle.house.proofs.Calling.{open-no-room, open-done}
 use Rattle.calls.proofs.open_slot.Statement.{statement}
 use Rattle.calls.proofs.open_slot.Tie as tie
 
-sounded : (c : tie.Else1) → sound (c .before .before .args .house) ≡ true
-sounded c = sym (c .before .is-sound .ensures) ∙ not-false _ (c .if1 .left)
+-- what the test of the house told
+module _ (fine : tie.Else1) where
+  abbrev test : tie.After-soundness-of
+  test = fine .before .before
+
+  sounded : sound (test .before .args .house) ≡ true
+  sounded = told-sound _ _ (test .soundness-of .ensures) (not-false _ (fine .if1 .left))
+
+  owed : test .soundness-of .result .promised ≡ promised (test .before .args .house)
+  owed = told-promised _ _ (test .soundness-of .ensures) (not-false _ (fine .if1 .left))
 
 returns : tie.Need-returns
 returns c =
+    let tested = c .before .before .before .soundness-of in
     c .answer-with .ensures
-    ∙ sym (open-unsound _ _ _ (sym (c .before .before .is-sound .ensures) ∙ not-true _ (c .before .if1 .taken)))
+    ∙ sym (open-unsound _ _ _ (told-unsound _ _ (tested .ensures) (not-true _ (c .before .if1 .taken))))
 
 returns-2 : tie.Need-returns-2
 returns-2 c = c .answer-with2 .ensures ∙ sym (open-no-slot _ _ _ (sounded (c .before .before)) (c .before .if2 .taken))
@@ -41,42 +51,38 @@ cast-free c = record { fits = omega (arith, told-within _ (sounded (c .before .b
 sub-free : tie.Need-sub-free
 sub-free c = told-within _ (sounded (c .before .before .before .before))
 
-promised-by-requires : tie.Need-promised-by-requires
-promised-by-requires c κs = sounded (c .before .before .before .before)
-
 sub-if5 : tie.Need-sub-if5
 sub-if5 c =
     let fine = c .before .before .before .before .before in
-    omega (arith, told-rooms _ (sounded fine), c .promised-by .ensures .0)
+    omega (arith, told-rooms _ (sounded fine), owed fine)
 
 returns-5 : tie.Need-returns-5
 returns-5 c =
-    let low = c .before .before .before .before .before in
-    let a = low .before .before .before .before .args in
     let room = c .before in
+    let low = room .before .before .before .before in
+    let fine = low .before .before in
+    let a = test fine .before .args in
     c .answer-with5 .ensures
     ∙ sym
-    (open-no-room _ _ _ (sounded (low .before .before)) (low .before .if2 .left) (low .if3 .left)
-    (room .before .before .if4 .left)
-    (subst (λ (n : ℕ). 1024 - a .house .used - n < a .floor) (room .before .promised-by .ensures .0)
-    (room .if5 .taken)))
+    (open-no-room _ _ _ (sounded fine) (low .before .if2 .left) (low .if3 .left) (room .before .before .if4 .left)
+    (subst (λ (n : ℕ). 1024 - a .house .used - n < a .floor) (owed fine) (room .if5 .taken)))
 
 returns-6 : tie.Need-returns-6
 returns-6 c =
-    let low = c .before .before .before .before .before .before in
-    let a = low .before .before .before .before .args in
     let room = c .before .before in
+    let low = room .before .before .before .before in
+    let fine = low .before .before in
+    let a = test fine .before .args in
     c .answer-with6 .ensures
     ∙ sym
-    (open-done _ _ _ (sounded (low .before .before)) (low .before .if2 .left) (low .if3 .left)
-    (room .before .before .if4 .left)
-    (subst (λ (n : ℕ). a .floor ≤ 1024 - a .house .used - n) (room .before .promised-by .ensures .0) (room .if5 .left))
-    _ (c .before .opened .ensures))
+    (open-done _ _ _ (sounded fine) (low .before .if2 .left) (low .if3 .left) (room .before .before .if4 .left)
+    (subst (λ (n : ℕ). a .floor ≤ 1024 - a .house .used - n) (owed fine) (room .if5 .left)) _
+    (c .before .opened .ensures))
 
 -- ---- found by search
 
-is-sound-requires : tie.Need-is-sound-requires
-is-sound-requires c κs = search needs
+soundness-of-requires : tie.Need-soundness-of-requires
+soundness-of-requires c κs = search needs
 
 answer-with-requires : tie.Need-answer-with-requires
 answer-with-requires c κs = search needs
@@ -115,7 +121,7 @@ pub open-slot-spec : {M : Type 1} → statement M
 open-slot-spec =
     tie.close
     (tie.spec
-    is-sound-requires
+    soundness-of-requires
     answer-with-requires
     returns
     answer-with-requires-2
@@ -128,7 +134,6 @@ open-slot-spec =
     returns-4
     cast-free
     sub-free
-    promised-by-requires
     sub-if5
     answer-with-requires-5
     returns-5
