@@ -1,64 +1,27 @@
 // The calls and their answers: each takes the house and gives back the house after it.
-use crate::count_lines::line_call;
-use crate::parsing::Number;
-use crate::parsing::Verb;
-use crate::parsing::is_hex;
-use crate::parsing::is_no_bytes;
-use crate::parsing::number_of;
-use crate::parsing::unhex;
-use crate::parsing::verb_of;
-use crate::parsing::word_end;
 use crate::report::report_call;
-use crate::text::no_call;
-use house::Answered;
+use asking::Number;
+use asking::Verb;
+use asking::close_call;
+use asking::figures_call;
+use asking::is_hex;
+use asking::is_no_bytes;
+use asking::line_call;
+use asking::no_call;
+use asking::number_of;
+use asking::open_call;
+use asking::said;
+use asking::unhex;
+use asking::verb_of;
+use asking::word_end;
 use house::House;
 use telling::say;
-use telling::say_answer;
-use telling::say_number;
 ghost use Prim.Native.Nat.{_≤_};
 ghost use lib.ListN.{length};
-
-fn said(done: Answered) -> House {
-    let answer = done.answer;
-    say_answer(answer);
-    say(b"\n");
-    done.house
-}
 
 fn fresh_call() -> House {
     say(b"0\n");
     House::fresh()
-}
-
-fn open_call(house: House, slot: Number, floor: Number) -> House {
-    let Number::Is(s) = slot else {
-        return no_call(house);
-    };
-    let Number::Is(f) = floor else {
-        return no_call(house);
-    };
-    said(calls::open_slot(house, s, f))
-}
-
-fn close_call(house: House, slot: Number) -> House {
-    let Number::Is(s) = slot else {
-        return no_call(house);
-    };
-    said(calls::close_slot(house, s))
-}
-
-fn figures_call(house: House) -> House {
-    let found = calls::figures(house);
-    let answer = found.answer;
-    say_answer(answer);
-    if answers::number(answer) == 0 {
-        say(b" ");
-        say_number(found.free as u64);
-        say(b" ");
-        say_number(found.promised as u64);
-    }
-    say(b"\n");
-    house
 }
 
 // The record's digits stand from `from` on.

@@ -1,6 +1,6 @@
 // Lines from standard input. The longest call delivers 65,539 bytes; a longer line is no call, and is passed over.
 use crate::answering::answer_line;
-use crate::text::no_call;
+use asking::no_call;
 use house::House;
 ghost use mathlib.Core.Path.{_≡_};
 ghost use Prim.Native.Nat.{_≤_, _<_};

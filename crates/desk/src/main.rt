@@ -18,11 +18,8 @@
 // twenty. A line that begins with `#` is copied, an empty one stays empty, and any other line that is no call answers
 // `?`, one with a LENGTH above 4,096 among them.
 mod answering;
-mod count_lines;
 mod input;
-mod parsing;
 mod report;
-mod text;
 
 fn main() {
     input::answer_all();

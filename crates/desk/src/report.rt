@@ -1,7 +1,7 @@
 // The call report, over a slice of LENGTH rows. No report has more than 1,024 rows, so a longer one is as good as one of
 // 1,024: what is printed are the rows that were written to the slice.
-use crate::parsing::Number;
-use crate::text::no_call;
+use asking::Number;
+use asking::no_call;
 use calls::list_rows;
 use house::House;
 use house::Listing;

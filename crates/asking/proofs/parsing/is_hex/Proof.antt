@@ -1,10 +1,10 @@
--- `desk::parsing::is_hex` ends, and reads within the word.
+-- `asking::parsing::is_hex` ends, and reads within the word.
 -- Assumes nothing.
 use Prim.Native.Nat.{_-_, _≤_}
 use lib.ListN.{length}
 use borrow.Author.Needs.{needs}
-use Rattle.desk.proofs.parsing.is_hex.Statement.{statement}
-use Rattle.desk.proofs.parsing.is_hex.Tie as tie
+use Rattle.asking.proofs.parsing.is_hex.Statement.{statement}
+use Rattle.asking.proofs.parsing.is_hex.Tie as tie
 
 abbrev Inv-loop : tie.InvT-loop
 Inv-loop word i₀ i = i ≤ length word

@@ -1,10 +1,10 @@
--- `desk::parsing::word_end` ends, within the line.
+-- `asking::parsing::word_end` ends, within the line.
 -- Assumes nothing.
 use Prim.Native.Nat.{_-_, _≤_}
 use lib.ListN.{length}
 use borrow.Author.Needs.{needs}
-use Rattle.desk.proofs.parsing.word_end.Statement.{statement}
-use Rattle.desk.proofs.parsing.word_end.Tie as tie
+use Rattle.asking.proofs.parsing.word_end.Statement.{statement}
+use Rattle.asking.proofs.parsing.word_end.Tie as tie
 
 abbrev Inv-loop : tie.InvT-loop
 Inv-loop line from i₀ i = (from ≤ i) × (i ≤ length line)

@@ -1,10 +1,10 @@
--- `desk::parsing::is_name` ends, and reads within both words, which are of one length.
+-- `asking::parsing::is_name` ends, and reads within both words, which are of one length.
 -- Assumes nothing.
 use Prim.Native.Nat.{_-_, _≤_}
 use lib.ListN.{length}
 use borrow.Author.Needs.{needs}
-use Rattle.desk.proofs.parsing.is_name.Statement.{statement}
-use Rattle.desk.proofs.parsing.is_name.Tie as tie
+use Rattle.asking.proofs.parsing.is_name.Statement.{statement}
+use Rattle.asking.proofs.parsing.is_name.Tie as tie
 
 abbrev Inv-loop : tie.InvT-loop
 Inv-loop word name i₀ i = i ≤ length word

@@ -3,7 +3,7 @@ ghost use Prim.Native.Nat.{_+_, _≤_};
 ghost use lib.ListN.{length};
 
 // What a line asks for, by its first word.
-pub(crate) enum Verb {
+pub enum Verb {
     Fresh,
     Open,
     Deliver,
@@ -16,7 +16,7 @@ pub(crate) enum Verb {
 }
 
 // A word as a number.
-pub(crate) enum Number {
+pub enum Number {
     Is(u32),
     Not,
 }
@@ -28,7 +28,7 @@ pub(crate) enum Wide {
 }
 
 // Where the word that starts at `from` ends: at the next space, or at the line's end.
-pub(crate) fn word_end(line: &[u8], from: usize) -> usize
+pub fn word_end(line: &[u8], from: usize) -> usize
     requires { ⌜ from ≤ length (now line) ⌝ }
     ensures { λ r. ⌜ (from ≤ r) × (r ≤ length (now (line .entry))) ⌝ }
 {
@@ -57,7 +57,7 @@ fn is_name(word: &[u8], name: &[u8]) -> bool {
     true
 }
 
-pub(crate) fn verb_of(word: &[u8]) -> Verb {
+pub fn verb_of(word: &[u8]) -> Verb {
     if is_name(word, b"deliver") {
         return Verb::Deliver;
     }
@@ -117,7 +117,7 @@ pub(crate) fn wide_of(word: &[u8]) -> Wide {
 }
 
 // One to ten digits, at most 4,294,967,295.
-pub(crate) fn number_of(word: &[u8]) -> Number {
+pub fn number_of(word: &[u8]) -> Number {
     if 10 < word.len() {
         return Number::Not;
     }
@@ -147,7 +147,7 @@ fn byte_of(high: u8, low: u8) -> u8 {
 }
 
 // Whether a word is bytes in hexadecimal, at least one.
-pub(crate) fn is_hex(word: &[u8]) -> bool {
+pub fn is_hex(word: &[u8]) -> bool {
     if word.len() == 0 || word.len() % 2 == 1 {
         return false;
     }
@@ -162,7 +162,7 @@ pub(crate) fn is_hex(word: &[u8]) -> bool {
 }
 
 // Whether a word stands for no bytes.
-pub(crate) fn is_no_bytes(word: &[u8]) -> bool {
+pub fn is_no_bytes(word: &[u8]) -> bool {
     is_name(word, b"-")
 }
 
@@ -174,7 +174,7 @@ fn half(n: usize) -> usize
 
 // Lays the bytes of the digits from `from` on at the line's start: no byte reaches digits that are still to be read.
 // Answers how many bytes there are.
-pub(crate) fn unhex(line: &mut [u8], from: usize) -> usize
+pub fn unhex(line: &mut [u8], from: usize) -> usize
     requires { ⌜ from ≤ length (now line) ⌝ }
     ensures { λ r. ⌜ r ≤ length (now (line .exit)) ⌝ }
 {

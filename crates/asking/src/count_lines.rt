@@ -180,13 +180,7 @@ fn words_call(verb: Verb, order: Number, line: &mut [u8], from: usize) -> bool
     numbers_call(verb, order, at, long, line, b + 1)
 }
 
-pub(crate) fn line_call(
-    house: House,
-    verb: Verb,
-    order: Number,
-    line: &mut [u8],
-    from: usize,
-) -> House
+pub fn line_call(house: House, verb: Verb, order: Number, line: &mut [u8], from: usize) -> House
     requires { ⌜ from ≤ length (now line) ⌝ }
 {
     if words_call(verb, order, line, from) {

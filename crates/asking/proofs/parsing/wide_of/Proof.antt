@@ -1,10 +1,10 @@
--- `desk::parsing::wide_of` ends, and its number stays below 2 to the 64th.
+-- `asking::parsing::wide_of` ends, and its number stays below 2 to the 64th.
 -- Assumes nothing.
 use Prim.Native.Nat.{_-_, _≤_}
 use lib.ListN.{length}
 use borrow.Author.Needs.{needs}
-use Rattle.desk.proofs.parsing.wide_of.Statement.{statement}
-use Rattle.desk.proofs.parsing.wide_of.Tie as tie
+use Rattle.asking.proofs.parsing.wide_of.Statement.{statement}
+use Rattle.asking.proofs.parsing.wide_of.Tie as tie
 
 abbrev Inv-loop : tie.InvT-loop
 Inv-loop word n₀ i₀ n i = (i ≤ length word) × (n ≤ 18446744073709551615)

@@ -2,7 +2,7 @@
 use house::House;
 use telling::say;
 
-pub(crate) fn no_call(house: House) -> House {
+pub fn no_call(house: House) -> House {
     say(b"?\n");
     house
 }

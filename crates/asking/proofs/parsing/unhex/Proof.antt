@@ -1,11 +1,11 @@
--- `desk::parsing::unhex` ends, and reads and writes within the line.
+-- `asking::parsing::unhex` ends, and reads and writes within the line.
 -- Assumes nothing.
 use mathlib.Core.Path.{_≡_}
 use Prim.Native.Nat.{_-_, _≤_}
 use lib.ListN.{length}
 use borrow.Author.Needs.{needs}
-use Rattle.desk.proofs.parsing.unhex.Statement.{statement}
-use Rattle.desk.proofs.parsing.unhex.Tie as tie
+use Rattle.asking.proofs.parsing.unhex.Statement.{statement}
+use Rattle.asking.proofs.parsing.unhex.Tie as tie
 
 abbrev Inv-loop : tie.InvT-loop
 Inv-loop line₀ from n i₀ line i = (i ≤ n) × (length line ≡ length line₀)
