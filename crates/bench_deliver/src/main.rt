@@ -1,16 +1,16 @@
 // Delivers two records in turn to a house with 1,000 rows held, by value, a hundred thousand in all: what a call costs.
 // Without input both are a PTR, whose body is not read: nearly every record of a real lot. With any input they are the PIR
 // and the PRR of a part, which counts a row. It prints the last figures.
-use handmade::rising_keys;
-use handmade::standing;
+use fixtures::rising_keys;
+use fixtures::standing;
 use house::Figures;
 use house::House;
 use house::Slot;
 use order::Place;
 use session::Session;
-use telling::say;
-use telling::say_answer;
-use telling::say_number;
+use transcript::say;
+use transcript::say_answer;
+use transcript::say_number;
 ghost use Prim.Native.Nat.{_≤_};
 ghost use lib.ListN.{length};
 

@@ -1,12 +1,12 @@
 // Delivers records over lent rows, one after another: what the lent core costs. PIR and PRR pairs under 1,024 keys in no
 // order go to one session, many times over.
-use core::deliver_lent;
 use house::Room;
+use lent::deliver_lent;
 use numbers::Order;
 use order::Place;
 use session::Standing;
-use telling::say;
-use telling::say_number;
+use transcript::say;
+use transcript::say_number;
 ghost use mathlib.Core.Path.{_≡_};
 ghost use Prim.Native.Nat.{_+_, _≤_, _<_};
 ghost use lib.ListN.{length};

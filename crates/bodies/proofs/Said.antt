@@ -8,7 +8,7 @@ use native.Mathlib.Omega.{arith}
 use borrow.Author.Tests.{leb-true, eqb-false, not-true}
 use lib.Dec.{eqb}
 use lib.ListN.{getD}
-use Rattle.words.proofs.Both.{both-left, both-right}
+use Rattle.prelude.proofs.Both.{both-left, both-right}
 use Rattle.numbers.specs.declared.Order.{Order}
 use Rattle.numbers.specs.Laws.{Bytes}
 use Rattle.kinds.specs.declared.Kind.{Kind}

@@ -3,16 +3,16 @@
 mod reports;
 
 use answers::Answer;
-use core::deliver_lent;
-use core::is_sound;
-use core::soundness_lent;
-use core::soundness_of;
-use core::unfilled_of;
 use house::Answered;
 use house::Figures;
 use house::House;
 use house::Room;
 use house::Slot;
+use lent::deliver_lent;
+use lent::is_sound;
+use lent::soundness_lent;
+use lent::soundness_of;
+use lent::unfilled_of;
 pub use reports::judge_report;
 pub use reports::list_rows;
 pub use reports::report;

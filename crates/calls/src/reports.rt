@@ -1,10 +1,10 @@
 // The report of a slot: document 01, Calls, Report. The rows are written one after the other into a lent slice.
 use answers::Answer;
-use core::is_sound;
 use house::House;
 use house::Listing;
 use house::Reported;
 use house::Row;
+use lent::is_sound;
 use rows::held_by;
 use rows::slot_rank;
 ghost use mathlib.Core.Path.{_≡_};

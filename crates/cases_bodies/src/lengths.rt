@@ -4,9 +4,9 @@ use bodies::Reading;
 use bodies::read_body;
 use kinds::Kind;
 use numbers::Order;
-use telling::say;
-use telling::say_number;
-use telling::say_order;
+use transcript::say;
+use transcript::say_number;
+use transcript::say_order;
 ghost use Prim.Native.Nat.{_+_, _≤_, _<_};
 
 const ROOM: usize = 8192;

@@ -1,9 +1,9 @@
 // The kind of all 65,536 pairs, as a transcript: document 01, "Record frame and kinds". Held to the file stdout.
 use kinds::Kind;
 use kinds::kind_of;
-use telling::say;
-use telling::say_kind;
-use telling::say_number;
+use transcript::say;
+use transcript::say_kind;
+use transcript::say_number;
 ghost use Prim.Native.Nat.{_+_, _≤_};
 
 // What this transcript tells apart.

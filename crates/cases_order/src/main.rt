@@ -5,10 +5,10 @@ use kinds::kind_of;
 use order::Place;
 use order::Step;
 use order::next_place;
-use telling::say;
-use telling::say_cell;
-use telling::say_kind;
-use telling::say_places;
+use transcript::say;
+use transcript::say_cell;
+use transcript::say_kind;
+use transcript::say_places;
 
 fn say_step(step: Step) {
     match step {

@@ -8,10 +8,10 @@ use session::Session;
 use session::Standing;
 use session::Verdict;
 use session::judge_record;
-use telling::say;
-use telling::say_answer;
-use telling::say_number;
-use telling::say_place;
+use transcript::say;
+use transcript::say_answer;
+use transcript::say_number;
+use transcript::say_place;
 ghost use Prim.Native.Nat.{_+_, _<_};
 ghost use lib.ListN.{length};
 

@@ -2,13 +2,13 @@
 use crate::deliver::deliver;
 use crate::deliver::deliver_all;
 use crate::records::Step;
-use handmade::two_parts;
+use fixtures::two_parts;
 use numbers::Order;
 use order::Place;
 use session::Session;
 use session::Standing;
-use telling::say;
-use telling::say_order;
+use transcript::say;
+use transcript::say_order;
 
 fn heading(what: &[u8], order: Order) {
     say(what);

@@ -1,8 +1,8 @@
 // The records of the streams. A step of a stream is three characters: a letter for the kind, then a digit each for
 // head and site, which only a PIR, I, and a PRR, R, have. A body is as short as its kind allows; a PRR's bin is 5.
 use numbers::Order;
-use telling::say;
-use telling::say_number;
+use transcript::say;
+use transcript::say_number;
 
 pub(crate) struct Step {
     pub letter: u8,

@@ -3,14 +3,14 @@
 // rising, so a list that does not rise is not sound, even of distinct parts.
 use crate::deliver::deliver;
 use crate::records::Step;
-use handmade::rising_parts;
-use handmade::standing;
-use handmade::two_parts;
+use fixtures::rising_parts;
+use fixtures::standing;
+use fixtures::two_parts;
 use numbers::Order;
 use order::Place;
 use session::Session;
 use session::Standing;
-use telling::say;
+use transcript::say;
 
 fn judge(what: &[u8], standing: Standing, parts: [u64; 32]) {
     say(what);

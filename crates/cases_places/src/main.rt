@@ -3,15 +3,15 @@
 // fits, all zeros but for the FAR's. No part is open; in the body and behind the MRR a PCR was accepted. Held to the
 // file stdout.
 use answers::number;
-use handmade::standing;
+use fixtures::standing;
 use order::Place;
 use session::Session;
 use session::Verdict;
 use session::judge_record;
-use telling::say;
-use telling::say_cell;
-use telling::say_number;
-use telling::say_places;
+use transcript::say;
+use transcript::say_cell;
+use transcript::say_number;
+use transcript::say_places;
 
 fn number_of(verdict: Verdict) -> u8 {
     match verdict {

@@ -1,5 +1,5 @@
 // Bytes as the transcript has them: two digits each, with a space before each.
-use telling::say;
+use transcript::say;
 ghost use Prim.Native.Nat.{_<_};
 
 const DIGITS: [u8; 16] = *b"0123456789ABCDEF";

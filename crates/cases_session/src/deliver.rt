@@ -7,9 +7,9 @@ use numbers::Order;
 use session::Session;
 use session::Verdict;
 use session::judge_record;
-use telling::say;
-use telling::say_number;
-use telling::say_place;
+use transcript::say;
+use transcript::say_number;
+use transcript::say_place;
 
 fn number_of(verdict: Verdict) -> u8 {
     match verdict {

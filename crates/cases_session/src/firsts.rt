@@ -3,7 +3,7 @@ use crate::deliver::deliver_all;
 use crate::deliver::deliver_bytes;
 use numbers::Order;
 use session::Session;
-use telling::say;
+use transcript::say;
 
 fn first(rec: &[u8]) {
     deliver_bytes(Session::begin(), rec);

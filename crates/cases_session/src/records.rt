@@ -1,7 +1,7 @@
 // The records of the streams, a letter each. A body is as short as its kind allows and all zeros but for its first two
 // bytes; a small letter's body does not fit its kind.
 use numbers::Order;
-use telling::say;
+use transcript::say;
 
 fn say_misfit(letter: u8) {
     match letter {

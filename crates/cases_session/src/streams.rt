@@ -3,8 +3,8 @@ use crate::deliver::deliver_all;
 use crate::deliver::deliver_bytes;
 use numbers::Order;
 use session::Session;
-use telling::say;
-use telling::say_order;
+use transcript::say;
+use transcript::say_order;
 
 fn other(order: Order) -> Order {
     match order {

@@ -1,6 +1,6 @@
 // Houses, slots and their sessions, built field by field: the calls would let none of those be reached that is not
 // sound.
-use handmade::standing;
+use fixtures::standing;
 use house::House;
 use house::Slot;
 use order::Place;

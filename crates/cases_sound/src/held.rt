@@ -9,12 +9,12 @@ use crate::build::slot;
 use crate::build::with_rows;
 use crate::line::line;
 use crate::line::line_result;
-use handmade::rising_keys;
-use handmade::standing;
-use handmade::two_parts;
+use fixtures::rising_keys;
+use fixtures::standing;
+use fixtures::two_parts;
 use house::House;
 use order::Place;
-use telling::say;
+use transcript::say;
 
 // One row of slot 0 with its count, and so many PRRs accepted.
 fn one(key: u64, count: u64, results: u32) -> House {

@@ -7,9 +7,9 @@ use calls::figures;
 use calls::judge_report;
 use calls::open_slot;
 use house::House;
-use telling::say;
-use telling::say_answer;
-use telling::say_number;
+use transcript::say;
+use transcript::say_answer;
+use transcript::say_number;
 
 fn say_call(call: &[u8], answer: Answer) {
     say(call);

@@ -8,9 +8,9 @@ use crate::build::slot;
 use crate::build::with_rows;
 use crate::build::with_slots;
 use crate::line::line;
-use handmade::standing;
+use fixtures::standing;
 use order::Place;
-use telling::say;
+use transcript::say;
 
 // A floor of 1,025 breaks the room too: with n rows held it is promised 1,025 - n, and free is 1,024 - n.
 fn say_floors() {

@@ -7,13 +7,13 @@ use crate::build::slot;
 use crate::build::with_rows;
 use crate::build::with_slots;
 use crate::line::line;
-use handmade::rising_parts;
-use handmade::standing;
-use handmade::two_parts;
+use fixtures::rising_parts;
+use fixtures::standing;
+use fixtures::two_parts;
 use order::Place;
 use session::Standing;
-use telling::say;
-use telling::say_place;
+use transcript::say;
+use transcript::say_place;
 
 fn judge(name: &[u8], st: Standing, parts: [u64; 32]) {
     line(name, with_slots(slot(true, 0, st, parts), closed()));

@@ -8,8 +8,8 @@ use bodies::Record;
 use bodies::read_body;
 use kinds::Kind;
 use numbers::Order;
-use telling::say;
-use telling::say_number;
+use transcript::say;
+use transcript::say_number;
 
 fn say_field(name: &[u8], n: u32) {
     say(name);

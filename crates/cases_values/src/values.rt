@@ -3,9 +3,9 @@ use bodies::Reading;
 use bodies::read_body;
 use kinds::Kind;
 use numbers::Order;
-use telling::say;
-use telling::say_number;
-use telling::say_order;
+use transcript::say;
+use transcript::say_number;
+use transcript::say_order;
 
 fn say_answer(reading: Reading) {
     match reading {

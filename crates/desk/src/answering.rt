@@ -1,21 +1,21 @@
 // The calls and their answers: each takes the house and gives back the house after it.
 use crate::report::report_call;
-use asking::Number;
-use asking::Verb;
-use asking::close_call;
-use asking::figures_call;
-use asking::is_hex;
-use asking::is_no_bytes;
-use asking::line_call;
-use asking::no_call;
-use asking::number_of;
-use asking::open_call;
-use asking::said;
-use asking::unhex;
-use asking::verb_of;
-use asking::word_end;
 use house::House;
-use telling::say;
+use script::Number;
+use script::Verb;
+use script::close_call;
+use script::figures_call;
+use script::is_hex;
+use script::is_no_bytes;
+use script::line_call;
+use script::no_call;
+use script::number_of;
+use script::open_call;
+use script::said;
+use script::unhex;
+use script::verb_of;
+use script::word_end;
+use transcript::say;
 ghost use Prim.Native.Nat.{_≤_};
 ghost use lib.ListN.{length};
 

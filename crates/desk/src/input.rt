@@ -1,7 +1,7 @@
 // Lines from standard input. The longest call delivers 65,539 bytes; a longer line is no call, and is passed over.
 use crate::answering::answer_line;
-use asking::no_call;
 use house::House;
+use script::no_call;
 ghost use mathlib.Core.Path.{_≡_};
 ghost use Prim.Native.Nat.{_≤_, _<_};
 ghost use lib.ListN.{length};

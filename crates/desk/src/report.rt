@@ -1,14 +1,14 @@
 // The call report, over a slice of LENGTH rows. No report has more than 1,024 rows, so a longer one is as good as one of
 // 1,024: what is printed are the rows that were written to the slice.
-use asking::Number;
-use asking::no_call;
 use calls::list_rows;
 use house::House;
 use house::Listing;
 use house::Row;
-use telling::say;
-use telling::say_answer;
-use telling::say_number;
+use script::Number;
+use script::no_call;
+use transcript::say;
+use transcript::say_answer;
+use transcript::say_number;
 ghost use Prim.Native.Nat.{_≤_};
 
 fn say_row(row: Row) {

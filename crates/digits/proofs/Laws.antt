@@ -13,9 +13,9 @@ use borrow.Author.Tests.{lt-ltb, le-ltb, ltb-true, ltb-false, le-leb, lt-leb, le
 use lib.Dec.{ltb, leb}
 use lib.ListN.{length, getD, drop, length-append, List·getD-append, drop-of-length-le}
 use lib.Seq.{drop-cons}
-use Rattle.words.specs.Each.{each}
-use Rattle.words.proofs.Both.{both-left, both-right}
-use Rattle.words.proofs.Each.{each-append}
+use Rattle.prelude.specs.Each.{each}
+use Rattle.prelude.proofs.Both.{both-left, both-right}
+use Rattle.prelude.proofs.Each.{each-append}
 use Rattle.digits.specs.declared.Numeral.the-variants.{Value, NotANumber}
 use Rattle.digits.specs.Digits.{digit, digitsWithin, digits, isDigit, decimalFrom, decimal, numeral}
 use Rattle.digits.specs.Laws.{DigitsMost, DigitsSome, NoLeadingZero, DigitsDigits, DecimalDigits, NumeralDigits}

@@ -12,8 +12,8 @@ use mathlib.Core.Bool.{Bool, true, false, _&&_}
 use mathlib.Core.List.{List, [], _∷_, _++_}
 use lib.Dec.{leb, ltb}
 use lib.ListN.{length}
-use Rattle.words.specs.Choice.{_unless_then_}
-use Rattle.words.specs.Each.{each}
+use Rattle.prelude.specs.Choice.{_unless_then_}
+use Rattle.prelude.specs.Each.{each}
 use Rattle.digits.specs.declared.Numeral.{Numeral}
 use Rattle.digits.specs.declared.Numeral.the-variants.{Value, NotANumber}
 

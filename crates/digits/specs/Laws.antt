@@ -5,7 +5,7 @@ use mathlib.Core.Bool.{true}
 use Prim.Native.Nat.{ℕ, _≤_, _<_, _^_}
 use Prim.Native.Char.{code}
 use lib.ListN.{length, getD}
-use Rattle.words.specs.Each.{each}
+use Rattle.prelude.specs.Each.{each}
 use Rattle.digits.specs.declared.Numeral.the-variants.{Value}
 use Rattle.digits.specs.Digits.{digits, isDigit, decimal, numeral}
 

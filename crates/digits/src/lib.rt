@@ -3,7 +3,7 @@
 ghost use mathlib.Core.Path.{_≡_};
 ghost use Prim.Native.Nat.{_≤_};
 ghost use lib.ListN.{length};
-ghost use Rattle.placing.specs.Placed.{Put, Room};
+ghost use Rattle.output.specs.Placed.{Put, Room};
 ghost use Rattle.digits.specs.Digits.{digits, isDigit, numeral};
 
 // Writes the decimal digits of n at the start of the part that is lent.

@@ -17,15 +17,15 @@ use Rattle.numbers.specs.Numbers.{over}
 use Rattle.house.specs.declared.House.{House}
 use Rattle.house.specs.declared.Row.{Row}
 use Rattle.house.specs.Report.{rowAt}
-use Rattle.placing.specs.declared.Written.{Written}
-use Rattle.placing.specs.declared.Written.the-variants as written
-use Rattle.placing.specs.Placed.{Put, Outcome, outcome, placedAt}
+use Rattle.output.specs.declared.Written.{Written}
+use Rattle.output.specs.declared.Written.the-variants as written
+use Rattle.output.specs.Placed.{Put, Outcome, outcome, placedAt}
 use Rattle.digits.specs.Digits.{digits}
 use Rattle.digits.proofs.Laws.{length-one, length-more, digits-most}
-use Rattle.layouts.specs.declared.Line.{Line}
-use Rattle.layouts.specs.declared.Layout.the-variants as layout
-use Rattle.layouts.specs.Entries.{noField, meaningOf, Within, AllWithin}
-use Rattle.layouts.specs.Layouts.{laid, laidOut}
+use Rattle.line_layouts.specs.declared.Line.{Line}
+use Rattle.line_layouts.specs.declared.Layout.the-variants as layout
+use Rattle.line_layouts.specs.Entries.{noField, meaningOf, Within, AllWithin}
+use Rattle.line_layouts.specs.Layouts.{laid, laidOut}
 use Rattle.following.specs.Text.{rowLine, rowLines}
 use Rattle.following.specs.Text.{refusedLine, tooLongLine, unfinishedLine, leftOver, isEnded, closing, endedWith}
 use Rattle.following.specs.Text.{ended}

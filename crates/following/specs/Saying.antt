@@ -1,6 +1,6 @@
 -- How the lines that end a stream are written.
 --
---   fieldOf, lineOf   a row's HBR line as `layouts` holds it
+--   fieldOf, lineOf   a row's HBR line as `line_layouts` holds it
 --   mostLine          bytes that no such line passes
 --   LaidAt            what a writer that lays bytes at an offset returns and leaves
 --   mostText          bytes that no text passes
@@ -14,11 +14,11 @@ use lib.ListN.{length, take, drop}
 use Rattle.numbers.specs.Numbers.{over}
 use Rattle.house.specs.declared.House.{House}
 use Rattle.house.specs.declared.Row.{Row}
-use Rattle.layouts.specs.declared.Tag.the-variants.{Hbr}
-use Rattle.layouts.specs.declared.Said.the-variants as said
-use Rattle.layouts.specs.declared.Field.{Field}
-use Rattle.layouts.specs.declared.Line.{Line}
-use Rattle.layouts.specs.Entries.{noField}
+use Rattle.line_layouts.specs.declared.Tag.the-variants.{Hbr}
+use Rattle.line_layouts.specs.declared.Said.the-variants as said
+use Rattle.line_layouts.specs.declared.Field.{Field}
+use Rattle.line_layouts.specs.declared.Line.{Line}
+use Rattle.line_layouts.specs.Entries.{noField}
 use Rattle.following.specs.Text.{rowLines}
 
 abbrev pub fieldOf : ℕ → Field

@@ -21,10 +21,10 @@ use Rattle.house.specs.House.{rowCount}
 use Rattle.house.specs.Calls.{deliver}
 use Rattle.house.specs.Report.{rowAt, reported}
 use Rattle.digits.specs.Digits.{digits}
-use Rattle.layouts.specs.declared.Tag.the-variants.{Hbr}
-use Rattle.layouts.specs.Columns.{lineFeed}
-use Rattle.layouts.specs.Entries.{Missing, Number, Meaning}
-use Rattle.layouts.specs.Layouts.{textOf}
+use Rattle.line_layouts.specs.declared.Tag.the-variants.{Hbr}
+use Rattle.line_layouts.specs.Columns.{lineFeed}
+use Rattle.line_layouts.specs.Entries.{Missing, Number, Meaning}
+use Rattle.line_layouts.specs.Layouts.{textOf}
 use Rattle.following.specs.declared.Fate.{Fate}
 use Rattle.following.specs.declared.Fate.the-variants.{Going, Refused, TooLong}
 use Rattle.following.specs.Following.{Progress, standing, followed, begun}

@@ -1,19 +1,19 @@
 // The lines that end a stream: document 01, "Tally program". Each writer puts its bytes at the start of the part that
 // it is lent; a row's line goes to an offset.
 use house::Row;
-use layouts::Field;
-use layouts::Layout;
-use layouts::Line;
-use layouts::Said;
-use layouts::Tag;
-use layouts::laying::place;
-use placing::Written;
-use placing::put_byte;
-use placing::put_part;
+use line_layouts::Field;
+use line_layouts::Layout;
+use line_layouts::Line;
+use line_layouts::Said;
+use line_layouts::Tag;
+use line_layouts::laying::place;
+use output::Written;
+use output::put_byte;
+use output::put_part;
 ghost use mathlib.Core.List.{_++_};
 ghost use Prim.Native.Nat.{_+_, _≤_};
 ghost use lib.ListN.{length};
-ghost use Rattle.placing.specs.Placed.{Put, Room};
+ghost use Rattle.output.specs.Placed.{Put, Room};
 ghost use Rattle.digits.specs.Digits.{digits};
 ghost use Rattle.following.specs.Text.{lastNumber, recordNumber, refusedLine, tooLongLine, unfinishedLine};
 ghost use Rattle.following.specs.Text.{rowLine};

@@ -2,8 +2,8 @@
 use crate::Fate;
 use crate::Stage;
 use crate::cutting::needed;
-use core::deliver_lent;
 use house::Room;
+use lent::deliver_lent;
 use order::Place;
 use session::Standing;
 ghost use mathlib.Core.Path.{_≡_};

@@ -8,7 +8,7 @@ use native.Mathlib.Omega.{arith}
 use borrow.Author.Tests.{le-leb, lt-leb, leb-true, eqb-true}
 use lib.Dec.{eqb, leb}
 use lib.ListN.{length}
-use Rattle.words.proofs.Both.{both-left, both-right}
+use Rattle.prelude.proofs.Both.{both-left, both-right}
 use Rattle.numbers.specs.declared.Order.{Order}
 use Rattle.frames.specs.Frames.{header, recLen, isRecord}
 use Rattle.frames.specs.Laws.{RecordHeader, RecordLength}

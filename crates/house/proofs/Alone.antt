@@ -10,7 +10,7 @@ use native.Mathlib.Omega.{arith}
 use borrow.Author.Tests.{lt-ltb, leb-true, leb-false, ltb-true, eqb-true, not-true}
 use lib.Dec.{leb, ltb}
 use lib.ListN.{length}
-use Rattle.words.proofs.Both.{both-left, both-right}
+use Rattle.prelude.proofs.Both.{both-left, both-right}
 use Rattle.answers.specs.declared.Answer.{Answer}
 use Rattle.answers.specs.declared.Answer.the-variants.{Done, SlotTaken, FloorTooHigh, OutputTooShort}
 use Rattle.answers.specs.Numbers.{numberOf}

@@ -11,7 +11,7 @@ use borrow.Author.Tests.{le-leb, lt-leb, lt-ltb, le-ltb, leb-true, eqb-true}
 use lib.Dec.{leb, eqb}
 use lib.ListN.{length, getD, set, List·getD-map}
 use lib.Seq.{length-take-le}
-use Rattle.words.proofs.Both.{both-left, both-right}
+use Rattle.prelude.proofs.Both.{both-left, both-right}
 use Rattle.answers.specs.declared.Answer.{Answer}
 use Rattle.answers.specs.declared.Answer.the-variants as answer
 use Rattle.rising.specs.Rising.{rising, allBelow}

@@ -11,8 +11,8 @@ use borrow.Author.Tests.{le-leb, lt-ltb, leb-true, ltb-true, ltb-false, eq-eqb, 
 use lib.Dec.{leb, ltb, eqb}
 use lib.ListN.{length, getD, set, replicate, length-set, List·getD-map}
 use lib.Seq.{map-set-same, length-take-le, getD-set-same, getD-set-other}
-use Rattle.words.specs.Choice.{_unless_then_}
-use Rattle.words.proofs.Both.{both-left, both-right}
+use Rattle.prelude.specs.Choice.{_unless_then_}
+use Rattle.prelude.proofs.Both.{both-left, both-right}
 use Rattle.numbers.specs.Laws.{Bytes}
 use Rattle.answers.specs.declared.Answer.the-variants.{Done}
 use Rattle.rising.specs.Rising.{rising, risingFrom, held}

@@ -10,7 +10,7 @@ use borrow.Author.Tests.{le-leb, lt-leb, eq-eqb, ne-eqb}
 use lib.Dec.{eqb, leb}
 use lib.ListN.{length, getD, take, drop, set, drop-of-length-le, length-map, List·getD-map}
 use lib.Seq.{drop-cons, take-suc-set, take-suc}
-use Rattle.words.proofs.Both.{both-left, both-right}
+use Rattle.prelude.proofs.Both.{both-left, both-right}
 use Rattle.rising.specs.Rising.{rising}
 use Rattle.rows.specs.Rows.{heldBy, sumBy, rowsRight, rowsOpen, rowsFit, Kept}
 use Rattle.rows.proofs.Laws.{right-apart}

@@ -9,7 +9,7 @@ use borrow.Author.Tests.{lt-ltb, ltb-true, ltb-false, eq-eqb}
 use lib.Dec.{ltb}
 use lib.ListN.{length, getD, take, set}
 use lib.Seq.{length-take-le}
-use Rattle.words.proofs.Both.{both-left, both-right}
+use Rattle.prelude.proofs.Both.{both-left, both-right}
 use Rattle.rising.specs.Rising.{rank, held, allBelow}
 use Rattle.rising.proofs.Laws.{rank-within, held-rank, below-insert}
 use Rattle.rows.specs.Rows.{slotOf, rowKey, heldBy, Kept, Rows, counted, keysUsed, countsUsed}

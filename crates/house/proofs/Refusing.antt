@@ -9,9 +9,9 @@ use native.Mathlib.Omega.{arith}
 use lib.Dec.{leb, ltb, eqb}
 use lib.ListN.{length, drop, set, length-append}
 use lib.Seq.{set-getD}
-use Rattle.words.specs.Choice.{_unless_then_}
-use Rattle.words.specs.Checks.{_else_, numberBy}
-use Rattle.words.proofs.Checks.{check-first}
+use Rattle.prelude.specs.Choice.{_unless_then_}
+use Rattle.prelude.specs.Checks.{_else_, numberBy}
+use Rattle.prelude.proofs.Checks.{check-first}
 use Rattle.answers.specs.declared.Answer.{Answer}
 use Rattle.answers.specs.declared.Answer.the-variants as answer
 use Rattle.answers.specs.declared.Answer.the-variants.{Done}

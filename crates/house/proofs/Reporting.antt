@@ -11,8 +11,8 @@ use borrow.Author.Tests.{le-leb, lt-leb, leb-true, lt-ltb, le-ltb, ltb-true, ltb
 use lib.Dec.{leb, ltb}
 use lib.ListN.{length, getD, set, length-set, length-take}
 use lib.Seq.{getD-take, getD-set-same, getD-set-other, length-take-le, set-append-left}
-use Rattle.words.specs.Choice.{_unless_then_}
-use Rattle.words.proofs.Both.{both-left, both-right}
+use Rattle.prelude.specs.Choice.{_unless_then_}
+use Rattle.prelude.proofs.Both.{both-left, both-right}
 use Rattle.answers.specs.declared.Answer.the-variants.{Done, NoSuchSlot, SlotClosed, NotSound, OutputTooShort}
 use Rattle.rising.specs.Rising.{rising}
 use Rattle.rows.specs.Rows.{slotCount, slotOf, heldBy, sumBy, rowsRight, slotRank}

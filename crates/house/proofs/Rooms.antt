@@ -9,7 +9,7 @@ use native.Mathlib.Omega.{arith}
 use lib.Dec.{leb, ltb}
 use lib.ListN.{length, getD, List·getD-map}
 use lib.Seq.{getD-take}
-use Rattle.words.specs.Choice.{_unless_then_}
+use Rattle.prelude.specs.Choice.{_unless_then_}
 use Rattle.answers.specs.declared.Answer.{Answer}
 use Rattle.answers.specs.declared.Answer.the-variants.{NotSound}
 use Rattle.answers.specs.Numbers.{numberOf}

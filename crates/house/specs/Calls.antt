@@ -7,7 +7,7 @@ use mathlib.Core.Bool.{not}
 use mathlib.Core.List.{List}
 use lib.Dec.{leb, ltb}
 use lib.ListN.{getD, set}
-use Rattle.words.specs.Choice.{_unless_then_}
+use Rattle.prelude.specs.Choice.{_unless_then_}
 use Rattle.answers.specs.declared.Answer.{Answer}
 use Rattle.answers.specs.declared.Answer.the-variants.{Done, NoSuchSlot, SlotTaken, SlotClosed, NoRoom, NotSound}
 use Rattle.answers.specs.declared.Answer.the-variants.{FloorTooHigh}

@@ -11,7 +11,7 @@ use mathlib.Core.List.{List, [], _∷_, _++_}
 use Prim.Native.Nat.{ℕ, _+_, _-_, _≤_, _<_}
 use lib.Dec.{leb, ltb, eqb}
 use lib.ListN.{length, getD, drop}
-use Rattle.words.specs.Checks.{_else_, numberBy}
+use Rattle.prelude.specs.Checks.{_else_, numberBy}
 use Rattle.numbers.specs.Laws.{Bytes}
 use Rattle.answers.specs.declared.Answer.the-variants.{Done, NoRoom, NotSound}
 use Rattle.answers.specs.Numbers.{numberOf}

@@ -14,7 +14,7 @@ use mathlib.Core.Bool.{cond, _&&_}
 use mathlib.Core.List.{List, [], _∷_, _++_}
 use lib.Dec.{leb, ltb}
 use lib.ListN.{getD, set, replicate}
-use Rattle.words.specs.Choice.{_unless_then_}
+use Rattle.prelude.specs.Choice.{_unless_then_}
 use Rattle.answers.specs.declared.Answer.{Answer}
 use Rattle.answers.specs.declared.Answer.the-variants.{Done, NoSuchSlot, SlotClosed, NotSound, OutputTooShort}
 use Rattle.rows.specs.Rows.{slotCount, headOf, siteOf, binOf, heldBy, slotRank}

@@ -9,25 +9,25 @@ use borrow.Author.Tests.{le-leb, leb-true, not-true}
 use lib.Dec.{leb, ltb}
 use lib.ListN.{length, getD, drop, length-append}
 use lib.Seq.{drop-append-seam, drop-at, drop-drop, drop-nil}
-use Rattle.words.specs.Each.{each}
-use Rattle.words.proofs.Never.{false-true}
-use Rattle.words.proofs.Both.{both-left, both-right}
+use Rattle.prelude.specs.Each.{each}
+use Rattle.prelude.proofs.Never.{false-true}
+use Rattle.prelude.proofs.Both.{both-left, both-right}
 use Rattle.numbers.specs.declared.Order.{Order}
 use Rattle.numbers.specs.Numbers.{written, past}
 use Rattle.numbers.proofs.Laws.{length-written, one-written}
 use Rattle.fields.specs.Fields.{size, fits}
-use Rattle.layouts.specs.declared.Tag.{Tag}
-use Rattle.layouts.specs.declared.Tag.the-variants.{Pcr, Hbr, Sbr}
-use Rattle.layouts.specs.declared.Form.{Form}
-use Rattle.layouts.specs.declared.Form.the-variants.{U1, U2, U4, C1, Cn}
-use Rattle.layouts.specs.declared.Column.{Column}
-use Rattle.layouts.specs.declared.Layout.the-variants as layout
-use Rattle.layouts.specs.Columns.{columns, noColumn, width}
-use Rattle.layouts.specs.Names.{allowed}
-use Rattle.layouts.specs.Entries.{Entry, Missing, Number, Text, kept, present}
-use Rattle.layouts.specs.Layouts.{isName, missingValue, stored, laid}
-use Rattle.texts.specs.Pieces.{isNumber, letterFits}
-use Rattle.texts.specs.Laws.{entryFits, entriesFit}
+use Rattle.line_layouts.specs.declared.Tag.{Tag}
+use Rattle.line_layouts.specs.declared.Tag.the-variants.{Pcr, Hbr, Sbr}
+use Rattle.line_layouts.specs.declared.Form.{Form}
+use Rattle.line_layouts.specs.declared.Form.the-variants.{U1, U2, U4, C1, Cn}
+use Rattle.line_layouts.specs.declared.Column.{Column}
+use Rattle.line_layouts.specs.declared.Layout.the-variants as layout
+use Rattle.line_layouts.specs.Columns.{columns, noColumn, width}
+use Rattle.line_layouts.specs.Names.{allowed}
+use Rattle.line_layouts.specs.Entries.{Entry, Missing, Number, Text, kept, present}
+use Rattle.line_layouts.specs.Layouts.{isName, missingValue, stored, laid}
+use Rattle.line_texts.specs.Pieces.{isNumber, letterFits}
+use Rattle.line_texts.specs.Laws.{entryFits, entriesFit}
 use Rattle.lines.proofs.Most.{laid-none}
 
 -- a column's type in the tables of `fields`: its width, 0 where a count byte tells it

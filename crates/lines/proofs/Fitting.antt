@@ -10,10 +10,10 @@ use borrow.Author.Tests.{le-leb, leb-true, leb-false, eqb-false}
 use lib.Dec.{eqb, leb}
 use lib.ListN.{length, getD, take, drop}
 use lib.Seq.{getD-drop, drop-cons}
-use Rattle.words.specs.Each.{each}
-use Rattle.words.proofs.Never.{false-true}
-use Rattle.words.proofs.Both.{both-left, both-right}
-use Rattle.words.proofs.Each.{each-at}
+use Rattle.prelude.specs.Each.{each}
+use Rattle.prelude.proofs.Never.{false-true}
+use Rattle.prelude.proofs.Both.{both-left, both-right}
+use Rattle.prelude.proofs.Each.{each-at}
 use Rattle.numbers.specs.declared.Order.{Order}
 use Rattle.numbers.specs.Numbers.{number, front}
 use Rattle.numbers.specs.Laws.{Bytes}
@@ -26,21 +26,21 @@ use Rattle.fields.specs.Tables.{fields, fitsBody, pcr, bin}
 use Rattle.fields.proofs.Laws.{begun-whole}
 use Rattle.bodies.specs.Values.{countAt, passFailAt, nameAt, passFailFits}
 use Rattle.bodies.specs.Bodies.{pcrOf, binOf, binValuesFit, readPcr, readBin, readBody}
-use Rattle.placing.proofs.Laws.{length-part}
-use Rattle.layouts.specs.declared.Form.the-variants.{U1, U4, C1, Cn}
-use Rattle.layouts.specs.declared.Judged.{Judged}
-use Rattle.layouts.specs.declared.Fault.{Fault}
-use Rattle.layouts.specs.declared.Fault.the-variants.{None, Found}
-use Rattle.layouts.specs.Columns.{binColumns}
-use Rattle.layouts.specs.Names.{allowed}
-use Rattle.layouts.specs.Entries.{Entry, Missing, Number, Text, Meaning, entryOf, meaningOf}
-use Rattle.layouts.specs.Judging.{Says, byFault}
-use Rattle.layouts.proofs.Faults.{found-none}
-use Rattle.records.specs.Records.{siteSaid, countSaid, letterSaid, nameSaid, pcrLine, binLine, ofReading, isCount}
-use Rattle.records.specs.Records.{judged, meaning}
-use Rattle.records.proofs.Judges.{judged-body, none-frame, none-count}
-use Rattle.texts.specs.Laws.{entryFits, entriesFit, Fitting}
-use Rattle.texts.specs.Texts.{sitesFit}
+use Rattle.output.proofs.Laws.{length-part}
+use Rattle.line_layouts.specs.declared.Form.the-variants.{U1, U4, C1, Cn}
+use Rattle.line_layouts.specs.declared.Judged.{Judged}
+use Rattle.line_layouts.specs.declared.Fault.{Fault}
+use Rattle.line_layouts.specs.declared.Fault.the-variants.{None, Found}
+use Rattle.line_layouts.specs.Columns.{binColumns}
+use Rattle.line_layouts.specs.Names.{allowed}
+use Rattle.line_layouts.specs.Entries.{Entry, Missing, Number, Text, Meaning, entryOf, meaningOf}
+use Rattle.line_layouts.specs.Judging.{Says, byFault}
+use Rattle.line_layouts.proofs.Faults.{found-none}
+use Rattle.line_records.specs.Records.{siteSaid, countSaid, letterSaid, nameSaid, pcrLine, binLine, ofReading, isCount}
+use Rattle.line_records.specs.Records.{judged, meaning}
+use Rattle.line_records.proofs.Judges.{judged-body, none-frame, none-count}
+use Rattle.line_texts.specs.Laws.{entryFits, entriesFit, Fitting}
+use Rattle.line_texts.specs.Texts.{sitesFit}
 use Rattle.lines.specs.Writing.{entryAllowed}
 
 -- ---- numbers of a body are in range

@@ -6,15 +6,15 @@ use mathlib.Core.List.{List, _++_}
 use Prim.Native.Nat.{ℕ, _+_}
 use lib.Dec.{leb}
 use lib.ListN.{length, take, drop}
-use Rattle.words.proofs.Once.{equation}
+use Rattle.prelude.proofs.Once.{equation}
 use Rattle.answers.specs.declared.Answer.{Answer}
 use Rattle.answers.specs.declared.Answer.the-variants.{OutputTooShort}
-use Rattle.placing.specs.declared.Written.{Written}
-use Rattle.placing.specs.declared.Written.the-variants as written
-use Rattle.placing.specs.Placed.{Making, Makes, Refuses, Outcome, outcome, refused, placedAt, placed}
+use Rattle.output.specs.declared.Written.{Written}
+use Rattle.output.specs.declared.Written.the-variants as written
+use Rattle.output.specs.Placed.{Making, Makes, Refuses, Outcome, outcome, refused, placedAt, placed}
 use Rattle.lines.specs.Writing.{textFor, lineWritten}
 use Rattle.lines.specs.Reading.{recordFor, lineRead}
-use Rattle.texts.proofs.Canonical.{canonical-read}
+use Rattle.line_texts.proofs.Canonical.{canonical-read}
 use Rattle.lines.specs.Laws.{WrittenOnce, ReadOnce, WrittenRead, WrittenMost, RecordRead}
 use Rattle.lines.specs.Laws.{ThereAndBack, BackAgain, WriteRefused, ReadRefused}
 use Rattle.lines.proofs.Fitting.{record-fits}

@@ -7,7 +7,7 @@ use Prim.Native.Nat.{ℕ, _-_, _<_}
 use native.Mathlib.Omega.{arith}
 use borrow.Author.Tests.{eq-eqb, leb-true}
 use lib.ListN.{length, getD, drop}
-use Rattle.words.proofs.Never.{false-true}
+use Rattle.prelude.proofs.Never.{false-true}
 use Rattle.numbers.specs.declared.Order.{Order}
 use Rattle.numbers.specs.declared.Order.the-variants.{HighFirst, LowFirst}
 use Rattle.numbers.specs.Numbers.{number, front, written}
@@ -21,18 +21,18 @@ use Rattle.frames.proofs.Laws.{record-framed}
 use Rattle.fields.specs.Tables.{fitsBody, pcr, bin}
 use Rattle.bodies.specs.Values.{countAt, passFailAt, nameAt}
 use Rattle.bodies.specs.Bodies.{readPcr, readBin, readBody, binValuesFit}
-use Rattle.layouts.specs.declared.Tag.{Tag}
-use Rattle.layouts.specs.declared.Tag.the-variants.{Pcr, Hbr, Sbr}
-use Rattle.layouts.specs.declared.Form.the-variants.{U2, U4}
-use Rattle.layouts.specs.declared.Column.{Column}
-use Rattle.layouts.specs.Columns.{pcrColumns, binColumns, countType, columns}
-use Rattle.layouts.specs.Entries.{Entry, Missing, Number, Text, Meaning, entryOf, present}
-use Rattle.layouts.specs.Layouts.{recordOf}
-use Rattle.layouts.specs.Judging.{Says, saidIn}
-use Rattle.records.specs.Records.{siteSaid, countSaid, letterSaid, nameSaid, binTag, ofReading, isCount, meaning}
-use Rattle.records.proofs.Judges.{judged-body}
-use Rattle.texts.specs.Texts.{sitesFit}
-use Rattle.texts.specs.Laws.{entriesFit, Fitting}
+use Rattle.line_layouts.specs.declared.Tag.{Tag}
+use Rattle.line_layouts.specs.declared.Tag.the-variants.{Pcr, Hbr, Sbr}
+use Rattle.line_layouts.specs.declared.Form.the-variants.{U2, U4}
+use Rattle.line_layouts.specs.declared.Column.{Column}
+use Rattle.line_layouts.specs.Columns.{pcrColumns, binColumns, countType, columns}
+use Rattle.line_layouts.specs.Entries.{Entry, Missing, Number, Text, Meaning, entryOf, present}
+use Rattle.line_layouts.specs.Layouts.{recordOf}
+use Rattle.line_layouts.specs.Judging.{Says, saidIn}
+use Rattle.line_records.specs.Records.{siteSaid, countSaid, letterSaid, nameSaid, binTag, ofReading, isCount, meaning}
+use Rattle.line_records.proofs.Judges.{judged-body}
+use Rattle.line_texts.specs.Texts.{sitesFit}
+use Rattle.line_texts.specs.Laws.{entriesFit, Fitting}
 use Rattle.lines.proofs.Bodies.{laidIn, laid-first, behind, laid-fits, laid-short, roomy-columns}
 use Rattle.lines.proofs.Bodies.{length-kept-two, length-fit, fit-at}
 use Rattle.lines.proofs.Stored.{number-at, no-text, sites-at, count-at, letter-at, name-at}

@@ -8,22 +8,22 @@ use native.Mathlib.Omega.{arith}
 use borrow.Author.Tests.{ltb-true, ltb-false, leb-true, not-true}
 use lib.Dec.{ltb, leb}
 use lib.ListN.{length, length-append}
-use Rattle.words.specs.Each.{each}
-use Rattle.words.proofs.Never.{false-true}
-use Rattle.words.proofs.Both.{both-left, both-right}
+use Rattle.prelude.specs.Each.{each}
+use Rattle.prelude.proofs.Never.{false-true}
+use Rattle.prelude.proofs.Both.{both-left, both-right}
 use Rattle.digits.specs.Digits.{digits}
 use Rattle.digits.proofs.Laws.{by-quotient, length-one, length-more, digits-some}
-use Rattle.layouts.specs.declared.Tag.{Tag}
-use Rattle.layouts.specs.declared.Tag.the-variants.{Pcr, Hbr, Sbr}
-use Rattle.layouts.specs.declared.Column.{Column}
-use Rattle.layouts.specs.declared.Layout.{Layout}
-use Rattle.layouts.specs.declared.Layout.the-variants as layout
-use Rattle.layouts.specs.Columns.{tagText, columns}
-use Rattle.layouts.specs.Names.{allowed}
-use Rattle.layouts.specs.Entries.{Entry, Missing, Number, Text, Meaning, kept, present}
-use Rattle.layouts.specs.Layouts.{isName, entryText, mark, isLast, laid, textOf}
-use Rattle.texts.specs.Pieces.{isNumber, letterFits}
-use Rattle.texts.specs.Laws.{entryFits, entriesFit, Fitting}
+use Rattle.line_layouts.specs.declared.Tag.{Tag}
+use Rattle.line_layouts.specs.declared.Tag.the-variants.{Pcr, Hbr, Sbr}
+use Rattle.line_layouts.specs.declared.Column.{Column}
+use Rattle.line_layouts.specs.declared.Layout.{Layout}
+use Rattle.line_layouts.specs.declared.Layout.the-variants as layout
+use Rattle.line_layouts.specs.Columns.{tagText, columns}
+use Rattle.line_layouts.specs.Names.{allowed}
+use Rattle.line_layouts.specs.Entries.{Entry, Missing, Number, Text, Meaning, kept, present}
+use Rattle.line_layouts.specs.Layouts.{isName, entryText, mark, isLast, laid, textOf}
+use Rattle.line_texts.specs.Pieces.{isNumber, letterFits}
+use Rattle.line_texts.specs.Laws.{entryFits, entriesFit, Fitting}
 
 -- a greater number has no fewer digits
 digits-rising : (m n : ℕ) → n ≤ m → length (digits n) ≤ length (digits m)

@@ -9,31 +9,31 @@ use native.Mathlib.Omega.{arith}
 use borrow.Author.Tests.{leb-true, eqb-true, not-true}
 use lib.Dec.{eqb, leb}
 use lib.ListN.{length}
-use Rattle.words.specs.Each.{each}
-use Rattle.words.proofs.Never.{false-true}
-use Rattle.words.proofs.Both.{both-left, both-right}
+use Rattle.prelude.specs.Each.{each}
+use Rattle.prelude.proofs.Never.{false-true}
+use Rattle.prelude.proofs.Both.{both-left, both-right}
 use Rattle.answers.specs.declared.Answer.the-variants.{NameNotText, UnknownOrder}
 use Rattle.numbers.specs.declared.Order.{Order}
 use Rattle.numbers.specs.declared.Ordering.{Ordering}
 use Rattle.numbers.specs.declared.Ordering.the-variants.{Known, Unknown}
 use Rattle.numbers.specs.Orders.{orderOf}
 use Rattle.numbers.specs.Laws.{Bytes}
-use Rattle.placing.specs.declared.Written.the-variants as written
-use Rattle.placing.specs.Placed.{part, outcome, placed}
-use Rattle.placing.proofs.Laws.{refused-bytes, placed-part}
-use Rattle.layouts.specs.declared.Form.{Form}
-use Rattle.layouts.specs.declared.Form.the-variants.{U1, U2, U4, C1, Cn}
-use Rattle.layouts.specs.declared.Column.{Column}
-use Rattle.layouts.specs.Names.{allowed}
-use Rattle.layouts.specs.Columns.{columns}
-use Rattle.layouts.specs.Entries.{Entry, Missing, Number, Text}
-use Rattle.layouts.specs.Layouts.{isName, textOf, recordOf}
-use Rattle.layouts.specs.Judging.{Judging, Says, Faulty}
-use Rattle.records.specs.Records.{meaning}
-use Rattle.texts.specs.Pieces.{isNumber, letterFits}
-use Rattle.texts.specs.Texts.{lineMeaning}
-use Rattle.texts.specs.Laws.{entryFits, entriesFit}
-use Rattle.texts.proofs.Canonical.{canonical-read, read-fits}
+use Rattle.output.specs.declared.Written.the-variants as written
+use Rattle.output.specs.Placed.{part, outcome, placed}
+use Rattle.output.proofs.Laws.{refused-bytes, placed-part}
+use Rattle.line_layouts.specs.declared.Form.{Form}
+use Rattle.line_layouts.specs.declared.Form.the-variants.{U1, U2, U4, C1, Cn}
+use Rattle.line_layouts.specs.declared.Column.{Column}
+use Rattle.line_layouts.specs.Names.{allowed}
+use Rattle.line_layouts.specs.Columns.{columns}
+use Rattle.line_layouts.specs.Entries.{Entry, Missing, Number, Text}
+use Rattle.line_layouts.specs.Layouts.{isName, textOf, recordOf}
+use Rattle.line_layouts.specs.Judging.{Judging, Says, Faulty}
+use Rattle.line_records.specs.Records.{meaning}
+use Rattle.line_texts.specs.Pieces.{isNumber, letterFits}
+use Rattle.line_texts.specs.Texts.{lineMeaning}
+use Rattle.line_texts.specs.Laws.{entryFits, entriesFit}
+use Rattle.line_texts.proofs.Canonical.{canonical-read, read-fits}
 use Rattle.lines.specs.Writing.{entryAllowed, textMade}
 use Rattle.lines.specs.Reading.{recordIn}
 use Rattle.lines.specs.Laws.{ReadBack, WrittenBack, ThereAndBack, BackAgain}

@@ -11,26 +11,26 @@ use borrow.Author.Tests.{le-leb, lt-leb, leb-true, ne-eqb, eqb-true}
 use lib.Dec.{eqb, leb}
 use lib.ListN.{length, getD, drop, length-append, length-drop, drop-of-length-le}
 use lib.Seq.{getD-drop, drop-drop, take-at}
-use Rattle.words.specs.Each.{each}
-use Rattle.words.proofs.Never.{false-true}
-use Rattle.words.proofs.Both.{both-left}
-use Rattle.words.proofs.Parts.{part-from}
+use Rattle.prelude.specs.Each.{each}
+use Rattle.prelude.proofs.Never.{false-true}
+use Rattle.prelude.proofs.Both.{both-left}
+use Rattle.prelude.proofs.Parts.{part-from}
 use Rattle.numbers.specs.declared.Order.{Order}
 use Rattle.numbers.specs.declared.Order.the-variants.{HighFirst, LowFirst}
 use Rattle.numbers.specs.Numbers.{number, front, written, past}
 use Rattle.numbers.proofs.Laws.{read-written, length-written, one-written, front-part}
 use Rattle.bodies.specs.declared.Optional.the-variants as optional
 use Rattle.bodies.specs.Values.{countAt, passFailAt, nameAt, passFailFits}
-use Rattle.layouts.specs.declared.Form.the-variants.{U1, U4, C1, Cn}
-use Rattle.layouts.specs.declared.Column.{Column}
-use Rattle.layouts.specs.declared.Layout.the-variants as layout
-use Rattle.layouts.specs.Names.{allowed}
-use Rattle.layouts.specs.Entries.{Entry, Missing, Number, Text, entryOf, kept}
-use Rattle.layouts.specs.Layouts.{stored}
-use Rattle.records.specs.Records.{siteSaid, countSaid, letterSaid, nameSaid}
-use Rattle.texts.specs.Pieces.{isNumber, letterFits}
-use Rattle.texts.specs.Texts.{sitesFit}
-use Rattle.texts.specs.Laws.{entryFits}
+use Rattle.line_layouts.specs.declared.Form.the-variants.{U1, U4, C1, Cn}
+use Rattle.line_layouts.specs.declared.Column.{Column}
+use Rattle.line_layouts.specs.declared.Layout.the-variants as layout
+use Rattle.line_layouts.specs.Names.{allowed}
+use Rattle.line_layouts.specs.Entries.{Entry, Missing, Number, Text, entryOf, kept}
+use Rattle.line_layouts.specs.Layouts.{stored}
+use Rattle.line_records.specs.Records.{siteSaid, countSaid, letterSaid, nameSaid}
+use Rattle.line_texts.specs.Pieces.{isNumber, letterFits}
+use Rattle.line_texts.specs.Texts.{sitesFit}
+use Rattle.line_texts.specs.Laws.{entryFits}
 use Rattle.lines.proofs.Most.{laid-none}
 use Rattle.lines.proofs.Bodies.{laidIn, laid-first, behind}
 

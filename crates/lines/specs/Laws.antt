@@ -13,21 +13,21 @@ use mathlib.Core.Bool.{true}
 use mathlib.Core.List.{List}
 use Prim.Native.Nat.{ℕ, _≤_}
 use lib.ListN.{length}
-use Rattle.words.specs.Once.{Once}
-use Rattle.words.specs.Each.{each}
+use Rattle.prelude.specs.Once.{Once}
+use Rattle.prelude.specs.Each.{each}
 use Rattle.numbers.specs.declared.Order.{Order}
 use Rattle.numbers.specs.declared.Ordering.the-variants.{Known}
 use Rattle.numbers.specs.Orders.{orderOf}
 use Rattle.numbers.specs.Laws.{Bytes}
 use Rattle.answers.specs.declared.Answer.{Answer}
-use Rattle.layouts.specs.Entries.{Meaning}
-use Rattle.layouts.specs.Layouts.{textOf, recordOf}
-use Rattle.layouts.specs.Judging.{Says}
-use Rattle.records.specs.Records.{meaning}
-use Rattle.texts.specs.Texts.{lineMeaning}
-use Rattle.texts.specs.Laws.{Fitting}
-use Rattle.placing.specs.declared.Written.the-variants as written
-use Rattle.placing.specs.Placed.{part, Outcome, outcome, placedAt}
+use Rattle.line_layouts.specs.Entries.{Meaning}
+use Rattle.line_layouts.specs.Layouts.{textOf, recordOf}
+use Rattle.line_layouts.specs.Judging.{Says}
+use Rattle.line_records.specs.Records.{meaning}
+use Rattle.line_texts.specs.Texts.{lineMeaning}
+use Rattle.line_texts.specs.Laws.{Fitting}
+use Rattle.output.specs.declared.Written.the-variants as written
+use Rattle.output.specs.Placed.{part, Outcome, outcome, placedAt}
 use Rattle.lines.specs.Writing.{entryAllowed, lineWritten}
 use Rattle.lines.specs.Reading.{lineRead}
 

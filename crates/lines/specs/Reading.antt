@@ -10,10 +10,10 @@ use Rattle.numbers.specs.declared.Order.{Order}
 use Rattle.numbers.specs.declared.Ordering.{Ordering}
 use Rattle.numbers.specs.declared.Ordering.the-variants.{Known, Unknown}
 use Rattle.numbers.specs.Orders.{orderOf}
-use Rattle.placing.specs.Placed.{Making, Makes, Refuses, Outcome, placed}
-use Rattle.layouts.specs.Layouts.{recordOf}
-use Rattle.layouts.specs.Judging.{Judging, Says, Faulty}
-use Rattle.texts.specs.Texts.{lineMeaning}
+use Rattle.output.specs.Placed.{Making, Makes, Refuses, Outcome, placed}
+use Rattle.line_layouts.specs.Layouts.{recordOf}
+use Rattle.line_layouts.specs.Judging.{Judging, Says, Faulty}
+use Rattle.line_texts.specs.Texts.{lineMeaning}
 
 abbrev pub recordMade : Order → Judging → Making
 recordMade order (Says m) = Makes (recordOf order m)

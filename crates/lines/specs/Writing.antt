@@ -8,18 +8,18 @@
 use mathlib.Core.Bool.{Bool, true}
 use mathlib.Core.List.{List}
 use Prim.Native.Nat.{ℕ}
-use Rattle.words.specs.Choice.{_unless_then_}
-use Rattle.words.specs.Each.{each}
+use Rattle.prelude.specs.Choice.{_unless_then_}
+use Rattle.prelude.specs.Each.{each}
 use Rattle.answers.specs.declared.Answer.the-variants.{UnknownOrder, NameNotText}
 use Rattle.numbers.specs.declared.Ordering.{Ordering}
 use Rattle.numbers.specs.declared.Ordering.the-variants.{Known, Unknown}
 use Rattle.numbers.specs.Orders.{orderOf}
-use Rattle.placing.specs.Placed.{Making, Makes, Refuses, Outcome, placed}
-use Rattle.layouts.specs.Entries.{Entry, Missing, Number, Text}
-use Rattle.layouts.specs.Layouts.{textOf}
-use Rattle.layouts.specs.Names.{allowed}
-use Rattle.layouts.specs.Judging.{Judging, Says, Faulty}
-use Rattle.records.specs.Records.{meaning}
+use Rattle.output.specs.Placed.{Making, Makes, Refuses, Outcome, placed}
+use Rattle.line_layouts.specs.Entries.{Entry, Missing, Number, Text}
+use Rattle.line_layouts.specs.Layouts.{textOf}
+use Rattle.line_layouts.specs.Names.{allowed}
+use Rattle.line_layouts.specs.Judging.{Judging, Says, Faulty}
+use Rattle.line_records.specs.Records.{meaning}
 
 abbrev pub entryAllowed : Entry → Bool
 entryAllowed Missing = true

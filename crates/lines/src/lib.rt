@@ -4,9 +4,9 @@ mod writing;
 
 use answers::Answer;
 use numbers::Ordering;
-use placing::Written;
+use output::Written;
 ghost use mathlib.Core.Path.{_≡_};
-ghost use Rattle.placing.specs.Placed.{outcome};
+ghost use Rattle.output.specs.Placed.{outcome};
 ghost use Rattle.lines.specs.Writing.{lineWritten};
 ghost use Rattle.lines.specs.Reading.{lineRead};
 

@@ -1,14 +1,14 @@
 // From a line to its record: document 01, "Count lines", Read.
-use layouts::Fault;
-use layouts::Layout;
-use layouts::laying::place;
+use line_layouts::Fault;
+use line_layouts::Layout;
+use line_layouts::laying::place;
+use line_texts::contents::ending_of;
+use line_texts::contents::judge_content;
 use numbers::Order;
-use placing::Written;
-use texts::contents::ending_of;
-use texts::contents::judge_content;
+use output::Written;
 ghost use mathlib.Core.Path.{_≡_};
-ghost use Rattle.placing.specs.Placed.{outcome, placed};
-ghost use Rattle.texts.specs.Texts.{contentMeans, lineMeaning};
+ghost use Rattle.output.specs.Placed.{outcome, placed};
+ghost use Rattle.line_texts.specs.Texts.{contentMeans, lineMeaning};
 ghost use Rattle.lines.specs.Reading.{recordMade};
 
 fn read_content(out: &mut [u8], at: usize, order: Order, s: &[u8]) -> Written

@@ -1,22 +1,22 @@
 // From a record to its line: document 01, "Count lines", Written.
 use answers::Answer;
-use layouts::Fault;
-use layouts::Layout;
-use layouts::Line;
-use layouts::Said;
-use layouts::columns::column_count;
-use layouts::laying::place;
-use layouts::laying::said_at;
-use layouts::names::part_allowed;
+use line_layouts::Fault;
+use line_layouts::Layout;
+use line_layouts::Line;
+use line_layouts::Said;
+use line_layouts::columns::column_count;
+use line_layouts::laying::place;
+use line_layouts::laying::said_at;
+use line_layouts::names::part_allowed;
+use line_records::judge_record;
 use numbers::Order;
-use placing::Written;
-use records::judge_record;
+use output::Written;
 ghost use mathlib.Core.Path.{_≡_};
-ghost use Rattle.words.specs.Each.{each};
-ghost use Rattle.placing.specs.Placed.{outcome, placed};
-ghost use Rattle.layouts.specs.Entries.{entryOf, entriesOf, meaningOf, Within, AllWithin};
-ghost use Rattle.layouts.specs.Judging.{Says};
-ghost use Rattle.records.specs.Records.{meaning};
+ghost use Rattle.prelude.specs.Each.{each};
+ghost use Rattle.output.specs.Placed.{outcome, placed};
+ghost use Rattle.line_layouts.specs.Entries.{entryOf, entriesOf, meaningOf, Within, AllWithin};
+ghost use Rattle.line_layouts.specs.Judging.{Says};
+ghost use Rattle.line_records.specs.Records.{meaning};
 ghost use Rattle.lines.specs.Writing.{entryAllowed, textMade};
 
 fn said_allowed(source: &[u8], said: Said) -> bool

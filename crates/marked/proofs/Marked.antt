@@ -15,12 +15,12 @@ use Rattle.frames.specs.Frames.{isRecord}
 use Rattle.kinds.specs.Kinds.{named, hasType, beyondTable, kindOf}
 use Rattle.bodies.specs.Bodies.{readBody}
 use Rattle.bodies.specs.Values.{softBinFits}
-use Rattle.placing.specs.Placed.{placedAt}
+use Rattle.output.specs.Placed.{placedAt}
 use Rattle.digits.specs.Digits.{digits, isDigit, numeral}
-use Rattle.layouts.specs.Names.{allowed}
-use Rattle.layouts.specs.Layouts.{laid}
-use Rattle.texts.specs.Texts.{ending, tagOf, sitesFit, contentMeans}
-use Rattle.texts.specs.Pieces.{split, pieceFits, entryIn, fieldsFit, entriesIn}
+use Rattle.line_layouts.specs.Names.{allowed}
+use Rattle.line_layouts.specs.Layouts.{laid}
+use Rattle.line_texts.specs.Texts.{ending, tagOf, sitesFit, contentMeans}
+use Rattle.line_texts.specs.Pieces.{split, pieceFits, entryIn, fieldsFit, entriesIn}
 use Rattle.marked.specs.Marked.{table, Marked}
 
 pub marked-cases : Marked

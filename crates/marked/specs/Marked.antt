@@ -13,9 +13,9 @@ use lib.ListN.{replicate}
 use Rattle.answers.specs.Numbers.{numberOf}
 use Rattle.numbers.specs.declared.Order.the-variants.{LowFirst}
 use Rattle.order.specs.declared.Place.the-variants.{Body}
-use Rattle.placing.specs.declared.Written.{Written}
-use Rattle.placing.specs.declared.Written.the-variants as written
-use Rattle.placing.specs.Placed.{Outcome, part}
+use Rattle.output.specs.declared.Written.{Written}
+use Rattle.output.specs.declared.Written.the-variants as written
+use Rattle.output.specs.Placed.{Outcome, part}
 use Rattle.lines.specs.Reading.{lineRead}
 use Rattle.rows.specs.Rows.{rowKey}
 use Rattle.session.specs.Session.{mostOpen}

@@ -14,7 +14,7 @@ use lib.Seq.{sets, sets-eq, getD-take, getD-drop}
 use mir.Syntax.{w16}
 use mir.Val.{SFits, toZ, ofZ}
 use mir.Facts.{sfits-toZ, toZ-pos, toZ-ofZ}
-use Rattle.words.proofs.Parts.{part-from}
+use Rattle.prelude.proofs.Parts.{part-from}
 use Rattle.numbers.specs.declared.Order.{Order}
 use Rattle.numbers.specs.declared.Order.the-variants.{HighFirst, LowFirst}
 use Rattle.numbers.specs.Numbers.{ordered, worth, number, front, bytes, written, over, past, signed}

@@ -11,10 +11,10 @@ use borrow.Author.Tests.{ltb-true, leb-true, not-true, le-leb}
 use lib.Dec.{eqb, leb, ltb}
 use lib.ListN.{length, take}
 use lib.Seq.{getD-drop, length-take-le}
-use Rattle.words.specs.Choice.{_unless_then_}
-use Rattle.words.specs.Checks.{_else_, numberBy}
-use Rattle.words.proofs.Both.{both-left, both-right}
-use Rattle.words.proofs.Checks.{check-first}
+use Rattle.prelude.specs.Choice.{_unless_then_}
+use Rattle.prelude.specs.Checks.{_else_, numberBy}
+use Rattle.prelude.proofs.Both.{both-left, both-right}
+use Rattle.prelude.proofs.Checks.{check-first}
 use Rattle.answers.specs.declared.Answer.{Answer}
 use Rattle.answers.specs.declared.Answer.the-variants as answer
 use Rattle.numbers.specs.declared.Order.{Order}

@@ -9,7 +9,7 @@ use mathlib.Core.Bool.{true, cond, not, _&&_}
 use mathlib.Core.List.{List}
 use lib.Dec.{eqb, leb, ltb}
 use lib.ListN.{length}
-use Rattle.words.specs.Choice.{_unless_then_}
+use Rattle.prelude.specs.Choice.{_unless_then_}
 use Rattle.answers.specs.declared.Answer.the-variants as answer
 use Rattle.numbers.specs.declared.Order.{Order}
 use Rattle.numbers.specs.declared.Ordering.{Ordering}

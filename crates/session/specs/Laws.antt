@@ -12,7 +12,7 @@ use mathlib.Core.List.{List, [], _∷_}
 use Prim.Native.Nat.{ℕ, _+_, _/_, _%_, _≤_, _<_}
 use lib.Dec.{eqb, leb, ltb}
 use lib.ListN.{length, take}
-use Rattle.words.specs.Checks.{Check, _else_, numberBy}
+use Rattle.prelude.specs.Checks.{Check, _else_, numberBy}
 use Rattle.numbers.specs.Laws.{Bytes}
 use Rattle.answers.specs.declared.Answer.{Answer}
 use Rattle.numbers.specs.declared.Order.{Order}

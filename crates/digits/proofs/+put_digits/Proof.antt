@@ -9,7 +9,7 @@ use lib.ListN.{length, length-set}
 use denote.Ref.{now}
 use borrow.Fn.Kinds.{In}
 use borrow.Fn.PlainCycle.{Measures, is, falls, and}
-use Rattle.placing.proofs.Laws.{put-end}
+use Rattle.output.proofs.Laws.{put-end}
 use Rattle.digits.specs.Digits.{digit, digits}
 use Rattle.digits.proofs.Laws.{digits-one, digits-more, length-one, length-more}
 use Rattle.digits.proofs.put_digits.Reads as put-digits

@@ -10,8 +10,8 @@ use denote.Ref.{now}
 use borrow.Author.Tests.{not-true, not-false}
 use borrow.Author.Needs.{needs}
 use Rattle.digits.specs.declared.Numeral.the-variants.{Value}
-use Rattle.words.specs.Each.{each}
-use Rattle.words.proofs.Each.{each-ends, each-fails, each-on}
+use Rattle.prelude.specs.Each.{each}
+use Rattle.prelude.proofs.Each.{each-ends, each-fails, each-on}
 use Rattle.digits.specs.Digits.{isDigit, decimal, decimalFrom}
 use Rattle.digits.proofs.Laws.{numeral-empty, numeral-long, numeral-no, numeral-value, decimal-on}
 use Rattle.digits.proofs.Laws.{decimal-ends, digit-least, digit-most, ceiling, ceiling-more, ceiling-most}

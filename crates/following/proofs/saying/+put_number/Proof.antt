@@ -8,7 +8,7 @@ use denote.Ref.{now}
 use borrow.Fn.Kinds.{In}
 use borrow.Fn.PlainCycle.{Measures, is, falls, and}
 use mathlib.Core.Path.{refl}
-use Rattle.placing.proofs.Laws.{put-end}
+use Rattle.output.proofs.Laws.{put-end}
 use Rattle.digits.specs.Digits.{digit, digits}
 use Rattle.digits.proofs.Laws.{digits-more, length-more}
 use Rattle.following.proofs.saying.put_number.Reads as put-number

@@ -4,9 +4,9 @@ use mathlib.Core.List.{[], _∷_}
 use native.Mathlib.Omega.{arith}
 use denote.Ref.{now}
 use borrow.Author.Needs.{needs}
-use Rattle.placing.proofs.Laws.{first, inside, behind, both}
+use Rattle.output.proofs.Laws.{first, inside, behind, both}
 use Rattle.digits.specs.Digits.{digits}
-use Rattle.layouts.specs.Columns.{lineFeed}
+use Rattle.line_layouts.specs.Columns.{lineFeed}
 use Rattle.following.proofs.saying.put_last.Statement.{statement}
 use Rattle.following.proofs.saying.put_last.Tie as tie
 

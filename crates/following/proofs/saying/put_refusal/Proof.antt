@@ -3,7 +3,7 @@
 use native.Mathlib.Omega.{arith}
 use denote.Ref.{now}
 use borrow.Author.Needs.{needs}
-use Rattle.placing.proofs.Laws.{first, inside, behind, both}
+use Rattle.output.proofs.Laws.{first, inside, behind, both}
 use Rattle.digits.specs.Digits.{digits}
 use Rattle.following.specs.Text.{recordNumber}
 use Rattle.following.proofs.saying.put_refusal.Statement.{statement}

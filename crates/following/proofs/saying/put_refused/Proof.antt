@@ -3,7 +3,7 @@
 use mathlib.Core.List.{_++_}
 use denote.Ref.{now}
 use borrow.Author.Needs.{needs}
-use Rattle.placing.proofs.Laws.{both}
+use Rattle.output.proofs.Laws.{both}
 use Rattle.digits.specs.Digits.{digits}
 use Rattle.following.specs.Text.{refusedWord, recordNumber}
 use Rattle.following.proofs.saying.put_refused.Statement.{statement}

@@ -4,7 +4,7 @@ use native.Mathlib.Omega.{arith}
 use denote.Ref.{now}
 use borrow.Author.Needs.{needs}
 use lib.Seq.{take-length}
-use Rattle.placing.proofs.Laws.{first, inside, behind, both}
+use Rattle.output.proofs.Laws.{first, inside, behind, both}
 use Rattle.following.specs.Text.{lastNumber}
 use Rattle.following.proofs.Texts.{put-as}
 use Rattle.following.proofs.saying.put_said.Statement.{statement}

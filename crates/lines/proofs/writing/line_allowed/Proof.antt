@@ -7,12 +7,12 @@ use lib.ListN.{length, drop}
 use denote.Ref.{now}
 use borrow.Author.Needs.{needs}
 use borrow.Author.Tests.{not-true, not-false}
-use Rattle.words.specs.Each.{each}
-use Rattle.words.proofs.Each.{each-ends, each-fails, each-on}
-use Rattle.layouts.specs.Columns.{columns}
-use Rattle.layouts.specs.Entries.{Entry, Missing, entriesOf}
+use Rattle.prelude.specs.Each.{each}
+use Rattle.prelude.proofs.Each.{each-ends, each-fails, each-on}
+use Rattle.line_layouts.specs.Columns.{columns}
+use Rattle.line_layouts.specs.Entries.{Entry, Missing, entriesOf}
 use Rattle.lines.specs.Writing.{entryAllowed}
-use Rattle.layouts.proofs.Laid.{said-at, length-entries}
+use Rattle.line_layouts.proofs.Laid.{said-at, length-entries}
 use Rattle.lines.proofs.writing.line_allowed.Statement.{statement}
 use Rattle.lines.proofs.writing.line_allowed.Tie as tie
 

@@ -6,9 +6,9 @@ use lib.Seq.{getD-drop}
 use denote.Ref.{now}
 use borrow.Author.Needs.{needs}
 use Rattle.frames.proofs.Laws.{record-header}
-use Rattle.layouts.specs.declared.Fault.the-variants.{None}
-use Rattle.records.specs.Records.{judged}
-use Rattle.records.proofs.Judges.{part-rest, none-frame, none-within}
+use Rattle.line_layouts.specs.declared.Fault.the-variants.{None}
+use Rattle.line_records.specs.Records.{judged}
+use Rattle.line_records.proofs.Judges.{part-rest, none-frame, none-within}
 use Rattle.lines.proofs.writing.write_in.Statement.{statement}
 use Rattle.lines.proofs.writing.write_in.Tie as tie
 

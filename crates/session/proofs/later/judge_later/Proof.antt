@@ -8,7 +8,7 @@ use lib.ListN.{take}
 use denote.Ref.{now}
 use borrow.Author.Tests.{not-true, not-false}
 use borrow.Author.Needs.{needs}
-use Rattle.words.proofs.Parts.{part-from}
+use Rattle.prelude.proofs.Parts.{part-from}
 use Rattle.frames.specs.Frames.{body, isRecord}
 use Rattle.bodies.specs.Bodies.{readBody}
 use Rattle.session.specs.declared.Standing.{Standing}

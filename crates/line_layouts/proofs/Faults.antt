@@ -1,0 +1,10 @@
+-- A line with a fault is not without one.
+-- Assumes nothing.
+use mathlib.Core.Path.{_≡_}
+use Prim.Native.Nat.{ℕ}
+use native.Mathlib.Omega.{arith}
+use Rattle.answers.specs.declared.Answer.{Answer}
+use Rattle.line_layouts.specs.declared.Fault.the-variants.{None, Found}
+
+pub found-none : {A : Type 0} (answer : Answer) → Found answer ≡ None → A
+found-none answer e = let never : _≡_ {A = ℕ} 0 1 = cc in absurd (omega arith)

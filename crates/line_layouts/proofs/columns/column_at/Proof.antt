@@ -1,0 +1,48 @@
+-- `line_layouts::columns::column_at` meets its contract: a column inside the table of each tag.
+-- Assumes nothing.
+use borrow.Author.Needs.{needs}
+use Rattle.line_layouts.proofs.columns.column_at.Statement.{statement}
+use Rattle.line_layouts.proofs.columns.column_at.Tie as tie
+
+pcr-column-requires : tie.Need-pcr-column-requires
+pcr-column-requires c κs = rw (c .enum-told .given .1) at (c .before .before .pre)
+
+bin-column-requires : tie.Need-bin-column-requires
+bin-column-requires c κs = rw (c .enum-told2 .given .1) at (c .before .before .pre)
+
+bin-column-requires-2 : tie.Need-bin-column-requires-2
+bin-column-requires-2 c κs = rw (c .enum-told3 .given .1) at (c .before .before .pre)
+
+-- ---- found by search
+
+enum-told : tie.Need-enum-told
+enum-told c = search needs
+
+enum-told-2 : tie.Need-enum-told-2
+enum-told-2 c = search needs
+
+enum-told-3 : tie.Need-enum-told-3
+enum-told-3 c = search needs
+
+returns : tie.Need-returns
+returns c = search needs
+
+returns-2 : tie.Need-returns-2
+returns-2 c = search needs
+
+returns-3 : tie.Need-returns-3
+returns-3 c = search needs
+
+pub column-at-spec : {M : Type 1} → statement M
+column-at-spec =
+    tie.close
+    (tie.spec
+    enum-told
+    pcr-column-requires
+    enum-told-2
+    bin-column-requires
+    enum-told-3
+    bin-column-requires-2
+    returns
+    returns-2
+    returns-3)

@@ -1,0 +1,74 @@
+-- `line_layouts::laying::nth_size` meets its contract: field j by its column, in either layout.
+-- Assumes nothing.
+use Prim.Native.Nat.{_+_}
+use native.Mathlib.Omega.{arith}
+use lib.Dec.{eqb}
+use denote.Ref.{now}
+use borrow.Author.Needs.{needs}
+use Rattle.line_layouts.specs.Entries.{entryOf}
+use Rattle.line_layouts.specs.Layouts.{nthBytes}
+use Rattle.line_layouts.proofs.Laid.{most-columns, marked-size}
+use Rattle.line_layouts.proofs.laying.nth_size.Statement.{statement}
+use Rattle.line_layouts.proofs.laying.nth_size.Tie as tie
+
+said-at-requires : tie.Need-said-at-requires
+said-at-requires c κs =
+    let s = c .before in
+    omega (arith, s .pre .before, s .pre .few, most-columns (s .args .line .tag))
+
+entry-size-requires : tie.Need-entry-size-requires
+entry-size-requires c κs =
+    let s = c .before .before .before .before .before in
+    rw (c .before .before .before .said-at .ensures) (s .pre .there .within (s .args .j))
+
+stored-size-requires : tie.Need-stored-size-requires
+stored-size-requires c κs =
+    let s = c .before .before .before .before .before .before in
+    rw (c .before .before .before .before .said-at .ensures) (s .pre .there .within (s .args .j))
+
+returns : tie.Need-returns
+unfolding nthBytes
+returns c =
+    let a = c .before .before .before .before .before .before .args in
+    let is = c .before .before .before .before .said-at in
+    rw (c .before .enum-told .given .1, ← is .ensures) (
+      marked-size (entryOf (now (a .source)) (is .result)) (eqb (a .j + 1) (a .n)) (c .entry-size .ensures .0),
+      omega arith,
+    )
+
+returns-2 : tie.Need-returns-2
+unfolding nthBytes
+returns-2 c =
+    rw (
+      c .before .before .layout .given .1,
+      ← c .before .before .before .before .before .said-at .ensures,
+      ← c .before .before .before .before .column-at .ensures,
+    ) (c .stored-size .ensures)
+
+-- ---- found by search
+
+column-at-requires : tie.Need-column-at-requires
+column-at-requires c κs = search needs
+
+enum-told : tie.Need-enum-told
+enum-told c = search needs
+
+add-result : tie.Need-add-result
+add-result c = search needs
+
+enum-known-layout : tie.Need-enum-known-layout
+enum-known-layout c = search needs
+
+pub nth-size-spec : {M : Type 1} → statement M
+nth-size-spec =
+    tie.close
+    (tie.spec
+    said-at-requires
+    column-at-requires
+    enum-told
+    entry-size-requires
+    add-result
+    enum-known-layout
+    stored-size-requires
+    returns
+    returns-2)

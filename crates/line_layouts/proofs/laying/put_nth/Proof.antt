@@ -1,0 +1,85 @@
+-- `line_layouts::laying::put_nth` meets its contract: field j by its column, in either layout.
+-- Assumes nothing.
+use native.Mathlib.Omega.{arith}
+use borrow.Author.Needs.{needs}
+use Rattle.line_layouts.specs.Layouts.{nthBytes}
+use Rattle.line_layouts.proofs.Laid.{most-columns}
+use Rattle.line_layouts.proofs.laying.put_nth.Statement.{statement}
+use Rattle.line_layouts.proofs.laying.put_nth.Tie as tie
+
+said-at-requires : tie.Need-said-at-requires
+said-at-requires c κs =
+    let s = c .before .before in
+    omega (arith, s .pre .0 .before, s .pre .0 .few, most-columns (s .args .line .tag))
+
+put-marked-requires : tie.Need-put-marked-requires
+unfolding nthBytes
+put-marked-requires c κs =
+    let s = c .before .before .before .before .before .before .before in
+    let is = c .before .before .before .before .said-at .ensures in
+    (rw is (s .pre .0 .there .within (s .args .j)), rw (c .before .enum-told .given .1, ← is) at (s .pre .1))
+
+put-stored-requires : tie.Need-put-stored-requires
+unfolding nthBytes
+put-stored-requires c κs =
+    let s = c .before .before .before .before .before .before .before .before in
+    let is = c .before .before .before .before .before .said-at .ensures in (
+      rw is (s .pre .0 .there .within (s .args .j)),
+      rw (c .before .before .layout .given .1, ← is, ← c .before .before .before .before .column-at .ensures)
+          at (s .pre .1),
+    )
+
+returns : tie.Need-returns
+unfolding nthBytes
+returns c =
+    rw (
+      c .before .before .before .before .enum-told .given .1,
+      ← c .before .before .before .before .before .before .before .said-at .ensures,
+    )
+    (c .before .before .put-marked .ensures)
+
+returns-2 : tie.Need-returns-2
+unfolding nthBytes
+returns-2 c =
+    rw (
+      c .before .before .before .before .before .layout .given .1,
+      ← c .before .before .before .before .before .before .before .before .said-at .ensures,
+      ← c .before .before .before .before .before .before .before .column-at .ensures,
+    )
+    (c .before .before .put-stored .ensures)
+
+-- ---- found by search
+
+column-at-requires : tie.Need-column-at-requires
+column-at-requires c κs = search needs
+
+enum-told : tie.Need-enum-told
+enum-told c = search needs
+
+add-put-marked : tie.Need-add-put-marked
+add-put-marked c = search needs
+
+enum-known-layout : tie.Need-enum-known-layout
+enum-known-layout c = search needs
+
+same-length : tie.Need-same-length
+same-length c = search needs
+
+same-length-2 : tie.Need-same-length-2
+same-length-2 c = search needs
+
+pub put-nth-spec : {M : Type 1} → statement M
+put-nth-spec =
+    tie.close
+    (tie.spec
+    said-at-requires
+    column-at-requires
+    enum-told
+    add-put-marked
+    put-marked-requires
+    enum-known-layout
+    put-stored-requires
+    same-length
+    returns
+    same-length-2
+    returns-2)

@@ -1,0 +1,90 @@
+-- The tables of count lines. Document 01, "Count lines", its first paragraph, and "Record frame and kinds", the
+-- fields of PCR, HBR and SBR.
+--
+--   separator, lineFeed, carriageReturn   the bytes between fields and at the end of a line
+--   tagText     how a line of each tag begins
+--   subOf       the subtype of its record
+--   columns     its fields: type, the most that the text may hold, whether it is required
+--   width       the bytes of a type in a record
+-- Assumes nothing.
+use Prim.Native.Nat.{ℕ}
+use Prim.Native.Char.{code}
+use mathlib.Core.Bool.{true, false}
+use mathlib.Core.List.{List, [], _∷_}
+use Rattle.line_layouts.specs.declared.Tag.{Tag}
+use Rattle.line_layouts.specs.declared.Tag.the-variants.{Pcr, Hbr, Sbr}
+use Rattle.line_layouts.specs.declared.Form.{Form}
+use Rattle.line_layouts.specs.declared.Form.the-variants.{U1, U2, U4, C1, Cn}
+use Rattle.line_layouts.specs.declared.Column.{Column}
+
+abbrev pub separator : ℕ
+separator = code "|"
+
+abbrev pub lineFeed : ℕ
+lineFeed = 10
+
+abbrev pub carriageReturn : ℕ
+carriageReturn = 13
+
+-- lines are `PCR:`, `HBR:`, `SBR:` and fields
+abbrev pub tagText : Tag → List ℕ
+tagText Pcr = code "P" ∷ code "C" ∷ code "R" ∷ code ":" ∷ []
+tagText Hbr = code "H" ∷ code "B" ∷ code "R" ∷ code ":" ∷ []
+tagText Sbr = code "S" ∷ code "B" ∷ code "R" ∷ code ":" ∷ []
+
+-- type and subtype in the twenty-five pairs
+abbrev pub countType : ℕ
+countType = 1
+
+abbrev pub subOf : Tag → ℕ
+subOf Pcr = 30
+subOf Hbr = 40
+subOf Sbr = 50
+
+-- Missing: 4,294,967,295 where a count may be missing, so such a count is at most one less
+abbrev pub mostCount : ℕ
+mostCount = 4_294_967_295
+
+abbrev pub mostOptional : ℕ
+mostOptional = 4_294_967_294
+
+-- head 0 to 254, site 0 to 255, parts, then retest, abort, good, functional
+abbrev pub pcrColumns : List Column
+pcrColumns =
+    (U1, 254, false) ∷
+    (U1, 255, false) ∷
+    (U4, mostCount, true) ∷
+    (U4, mostOptional, false) ∷
+    (U4, mostOptional, false) ∷
+    (U4, mostOptional, false) ∷
+    (U4, mostOptional, false) ∷
+    []
+
+-- head, site, bin 0 to 32,767, count, then P/F by its first character, and a name of at most 255 bytes
+abbrev pub binColumns : List Column
+binColumns =
+    (U1, 254, false) ∷
+    (U1, 255, false) ∷
+    (U2, 32_767, true) ∷
+    (U4, mostCount, true) ∷
+    (C1, 1, false) ∷
+    (Cn, 255, false) ∷
+    []
+
+-- SBR is laid out as HBR
+abbrev pub columns : Tag → List Column
+columns Pcr = pcrColumns
+columns Hbr = binColumns
+columns Sbr = binColumns
+
+-- what stands past a table's end
+abbrev pub noColumn : Column
+noColumn = (U1, 0, false)
+
+-- a name's count byte stands in front of it
+abbrev pub width : Form → ℕ
+width U1 = 1
+width U2 = 2
+width U4 = 4
+width C1 = 1
+width Cn = 1

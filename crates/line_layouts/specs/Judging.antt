@@ -1,0 +1,35 @@
+-- A line or a record taken apart, or what it is refused with.
+--
+--   saying, refusing   as this code holds them
+--   Judging, saidIn    the same with the bytes of the source: a meaning, or an answer
+-- Assumes nothing.
+use mathlib.Core.List.{List, [], _∷_}
+use Prim.Native.Nat.{ℕ}
+use Rattle.answers.specs.declared.Answer.{Answer}
+use Rattle.line_layouts.specs.declared.Tag.the-variants as tag
+use Rattle.line_layouts.specs.declared.Line.{Line}
+use Rattle.line_layouts.specs.declared.Fault.{Fault}
+use Rattle.line_layouts.specs.declared.Fault.the-variants.{None, Found}
+use Rattle.line_layouts.specs.declared.Judged.{Judged}
+use Rattle.line_layouts.specs.Entries.{Meaning, noField, meaningOf}
+
+abbrev pub noLine : Line
+noLine =
+    record { tag = tag.Pcr; fields = noField ∷ noField ∷ noField ∷ noField ∷ noField ∷ noField ∷ noField ∷ [] }
+
+abbrev pub saying : Line → Judged
+saying line = record { fault = None; line = line }
+
+abbrev pub refusing : Answer → Judged
+refusing answer = record { fault = Found answer; line = noLine }
+
+pub data Judging : Type 0 where
+  Says : Meaning → Judging
+  Faulty : Answer → Judging
+
+abbrev pub byFault : Meaning → Fault → Judging
+byFault m None = Says m
+byFault m (Found answer) = Faulty answer
+
+abbrev pub saidIn : List ℕ → Judged → Judging
+saidIn source j = byFault (meaningOf source (j .line)) (j .fault)

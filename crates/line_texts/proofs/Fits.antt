@@ -1,0 +1,107 @@
+-- Laws of one piece of text.
+-- Assumes nothing.
+use mathlib.Core.Path.{_≡_, refl, ap, sym}
+use mathlib.Core.Bool.{Bool, true, false, not}
+use mathlib.Core.List.{List, [], _∷_}
+use Prim.Native.Nat.{ℕ, _+_, _≤_, min}
+use Prim.Native.Char.{code}
+use native.Mathlib.Omega.{arith}
+use native.Mathlib.Nat.{min-eq-left, min-eq-right}
+use borrow.Author.Tests.{eq-eqb, ne-eqb, leb-true, leb-false}
+use lib.Dec.{eqb, leb}
+use lib.ListN.{length, getD, take, drop}
+use lib.Seq.{take-all, take-take}
+use Rattle.prelude.specs.Each.{each}
+use Rattle.digits.specs.declared.Numeral.{Numeral}
+use Rattle.digits.specs.declared.Numeral.the-variants.{Value, NotANumber}
+use Rattle.output.specs.Placed.{part}
+use Rattle.output.proofs.Laws.{length-part}
+use Rattle.line_layouts.specs.declared.Tag.{Tag}
+use Rattle.line_layouts.specs.declared.Tag.the-variants.{Pcr, Hbr, Sbr}
+use Rattle.line_layouts.specs.declared.Said.the-variants as said
+use Rattle.line_layouts.specs.Columns.{columns}
+use Rattle.line_layouts.specs.Entries.{Missing, Text}
+use Rattle.line_layouts.specs.declared.Column.{Column}
+use Rattle.line_texts.specs.Pieces.{isNumber, numberFits, numberIn, letterFits, valueFits, valueIn, pieceFits}
+use Rattle.line_texts.specs.Pieces.{entryIn, numberSaid, Holds, short}
+
+-- ---- P/F
+
+pub letter-none : (s : List ℕ) → length s ≡ 0 → letterFits s ≡ false
+letter-none [] e = refl
+letter-none (b ∷ bs) e = absurd (omega arith)
+
+module _ (s : List ℕ) (some : length s ≡ 0 → ⊥) where
+  pub letter-pass : getD s 0 0 ≡ code "P" → letterFits s ≡ true
+  letter-pass e = go s some e
+    where
+      go : (t : List ℕ) → (length t ≡ 0 → ⊥) → getD t 0 0 ≡ code "P" → letterFits t ≡ true
+      go [] h f = absurd (h refl)
+      go (b ∷ bs) h f = rw (eq-eqb b (code "P") f)
+
+  pub letter-fail : (getD s 0 0 ≡ code "P" → ⊥) → letterFits s ≡ eqb (getD s 0 0) (code "F")
+  letter-fail e = go s some e
+    where
+      go : (t : List ℕ) → (length t ≡ 0 → ⊥) → (getD t 0 0 ≡ code "P" → ⊥) → letterFits t ≡ eqb (getD t 0 0) (code "F")
+      go [] h f = absurd (h refl)
+      go (b ∷ bs) h f = rw (ne-eqb b (code "P") f)
+
+-- ---- any column
+
+module _ (c : Column) where
+  pub piece-empty : (s : List ℕ) → length s ≡ 0 → pieceFits c s ≡ not (c .2)
+  unfolding pieceFits
+  piece-empty [] e = refl
+  piece-empty (b ∷ bs) e = absurd (omega arith)
+
+  pub piece-value : (s : List ℕ) → (length s ≡ 0 → ⊥) → pieceFits c s ≡ valueFits c s
+  unfolding pieceFits
+  piece-value [] h = absurd (h refl)
+  piece-value (b ∷ bs) h = refl
+
+-- ---- what a piece says
+
+pub entry-empty : (c : Column) → entryIn c [] ≡ Missing
+unfolding entryIn
+entry-empty c = refl
+
+pub entry-value : (c : Column) (s : List ℕ) → (length s ≡ 0 → ⊥) → entryIn c s ≡ valueIn c s
+unfolding entryIn
+entry-value c [] h = absurd (h refl)
+entry-value c (b ∷ bs) h = refl
+
+pub number-holds : (s : List ℕ) (n : Numeral) → Holds s (numberSaid n) (numberIn n)
+number-holds s (Value n) = record { says = refl; there = tt }
+number-holds s NotANumber = record { says = refl; there = tt }
+
+pub number-small : (most n : ℕ) (x : Numeral) → x ≡ Value n → numberFits most x ≡ true → n ≤ most
+number-small most n x e f = leb-true n most (rw e at f)
+
+-- text that is kept: no more than the column says
+module _ (at len most : ℕ) (s : List ℕ) (h : at + len ≤ length s) (few : most ≤ 255) where
+  keep-cases : (t : Bool) → leb len most ≡ t
+      → Holds s (said.Text (record { at = at; len = min len most })) (Text (take most (part at len s)))
+  keep-cases true e =
+      let le = leb-true len most e in
+      rw (min-eq-left le)
+      record {
+        says = ap Text (sym (take-all most (part at len s) (omega (arith, length-part at len s h))));
+        there = (h, omega arith);
+      }
+  keep-cases false e =
+      let gt = leb-false len most e in
+      let le : most ≤ len = omega arith in
+      rw (min-eq-right le)
+      record { says = ap Text (sym (take-take most len (drop at s) le)); there = (omega arith, few) }
+
+  pub text-holds : Holds s (said.Text (record { at = at; len = min len most })) (Text (take most (part at len s)))
+  text-holds = keep-cases (leb len most) refl
+
+-- every column of text is short
+pub short-columns : (tag : Tag) → each short (columns tag) ≡ true
+short-columns Pcr = refl
+short-columns Hbr = refl
+short-columns Sbr = refl
+
+pub short-most : (c : Column) → short c ≡ true → isNumber (c .0) ≡ false → c .1 ≤ 255
+short-most c e f = leb-true (c .1) 255 (rw f at e)

@@ -1,0 +1,44 @@
+-- `line_texts::pieces::piece_at` meets its contract: behind the last piece there is an empty one.
+-- Assumes nothing.
+use denote.Ref.{now}
+use borrow.Author.Tests.{not-true, not-false}
+use borrow.Author.Needs.{needs}
+use Rattle.line_texts.proofs.Cuts.{next-none, next-more, next-last}
+use Rattle.line_texts.proofs.pieces.piece_at.Statement.{statement}
+use Rattle.line_texts.proofs.pieces.piece_at.Tie as tie
+
+returns : tie.Need-returns
+returns c =
+    let s = c .before .before in
+    let a = s .args in
+    next-none (now (a .text)) (a .from) (a .more) (s .pre) (not-true (a .more) (c .if1 .taken))
+
+returns-2 : tie.Need-returns-2
+returns-2 c =
+    let a = c .before .before .before .before .args in
+    next-more (now (a .text)) (a .from) (a .more) (c .before .piece-end .result) (c .before .piece-end .ensures)
+    (not-false (a .more) (c .before .before .if1 .left)) (c .if2 .taken)
+
+returns-3 : tie.Need-returns-3
+returns-3 c =
+    let a = c .before .before .before .before .args in
+    next-last (now (a .text)) (a .from) (a .more) (c .before .piece-end .result) (c .before .piece-end .ensures)
+    (not-false (a .more) (c .before .before .if1 .left)) (c .if2 .left)
+
+-- ---- found by search
+
+piece-end-requires : tie.Need-piece-end-requires
+piece-end-requires c κs = search needs
+
+sub-t8 : tie.Need-sub-t8
+sub-t8 c = search needs
+
+add-t9 : tie.Need-add-t9
+add-t9 c = search needs
+
+sub-t10 : tie.Need-sub-t10
+sub-t10 c = search needs
+
+pub piece-at-spec : {M : Type 1} → statement M
+piece-at-spec =
+    tie.close (tie.spec returns piece-end-requires sub-t8 add-t9 sub-t10 returns-2 returns-3)
