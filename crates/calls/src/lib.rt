@@ -1,7 +1,5 @@
 // The calls: document 01, "The house, its slots and its rows", Calls, each with its order of checks. A refusal gives
 // the house back as it came: every call takes a house by value, tests its soundness and answers, whatever is handed in.
-mod reports;
-
 use answers::Answer;
 use house::Answered;
 use house::Figures;
@@ -13,9 +11,6 @@ use lent::is_sound;
 use lent::soundness_lent;
 use lent::soundness_of;
 use lent::unfilled_of;
-pub use reports::judge_report;
-pub use reports::list_rows;
-pub use reports::report;
 use session::Session;
 use session::Verdict;
 use session::judge_lent;
