@@ -24,14 +24,14 @@ pub fn judge_report(house: House, slot: u32, long: usize) -> Reported
             rows: 0,
         };
     }
-    if 16 <= slot {
+    let i = slot as usize;
+    if House::SLOTS <= i {
         return Reported {
             answer: Answer::NoSuchSlot,
             rows: 0,
         };
     }
     let h = house;
-    let i = slot as usize;
     let s = h.slots[i];
     if !s.taken {
         return Reported {
@@ -79,7 +79,7 @@ fn keyed_row(key: u64, count: u64) -> Row
     }
 }
 
-fn no_rows() -> [Row; 1024]
+fn no_rows() -> [Row; House::ROWS]
     ensures { λ r. ⌜ r ≡ noRows ⌝ }
 {
     let row = Row {
@@ -88,7 +88,7 @@ fn no_rows() -> [Row; 1024]
         bin: 0,
         count: 0,
     };
-    [row; 1024]
+    [row; House::ROWS]
 }
 
 // A report by value, as a slice of `long` rows gets it. There is no branch: a refusal has no row to lay.
