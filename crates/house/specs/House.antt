@@ -12,6 +12,7 @@ use mathlib.Core.List.{List, [], _∷_, map}
 use lib.Dec.{leb, eqb}
 use lib.ListN.{length, take, replicate}
 use Rattle.rising.specs.Rising.{rising}
+use Rattle.prelude.specs.All.{all}
 use Rattle.rows.specs.Rows.{slotCount, heldBy, sumBy, rowsRight}
 use Rattle.session.specs.Session as session
 use Rattle.session.specs.Session.{begun, nothingYet, mostResults}
@@ -77,25 +78,35 @@ rowsSound taken keys counts = rising keys && rowsRight taken keys counts
 
 -- an open slot: its floor at most 1,024, its session sound, its counts the sum of its accepted PRRs, at most
 -- 4,294,967,295; a closed slot holds nothing
+abbrev pub openConditions : ℕ → Slot → List ℕ → List ℕ → List Bool
+openConditions i s keys counts =
+    leb (s .floor) rowCount
+    ∷ session.sound (s .session)
+    ∷ leb (s .session .standing .results) mostResults
+    ∷ eqb (sumBy i keys counts) (s .session .standing .results)
+    ∷ []
+
+abbrev pub closedConditions : Slot → List Bool
+closedConditions s = eqb (s .floor) 0 ∷ nothingYet (s .session .standing) ∷ []
+
 unfoldable pub slotSound : ℕ → Slot → List ℕ → List ℕ → Bool
-slotSound i s keys counts =
-    cond (s .taken)
-    (leb (s .floor) rowCount
-    && (session.sound (s .session)
-    && (leb (s .session .standing .results) mostResults
-    && eqb (sumBy i keys counts) (s .session .standing .results))))
-    (eqb (s .floor) 0 && nothingYet (s .session .standing))
+slotSound i s keys counts = all (cond (s .taken) (openConditions i s keys counts) (closedConditions s))
 
 unfoldable pub slotsSound : ℕ → List Slot → List ℕ → List ℕ → Bool
 slotsSound i [] keys counts = true
 slotsSound i (s ∷ ss) keys counts = slotSound i s keys counts && slotsSound (suc i) ss keys counts
 
 -- .. and free is at least promised
-unfoldable pub sound : House → Bool
-sound h =
+abbrev pub conditions : House → List Bool
+conditions h =
     leb (h .used) rowCount
-    && (rowsSound (takenOf (h .slots)) (keysOf h) (countsOf h)
-    && (slotsSound 0 (h .slots) (keysOf h) (countsOf h) && leb (promised h) (free h)))
+    ∷ rowsSound (takenOf (h .slots)) (keysOf h) (countsOf h)
+    ∷ slotsSound 0 (h .slots) (keysOf h) (countsOf h)
+    ∷ leb (promised h) (free h)
+    ∷ []
+
+unfoldable pub sound : House → Bool
+sound h = all (conditions h)
 
 -- what a test of it tells: whether it is sound, and the rows promised, 0 where it is not
 abbrev pub unsound : Soundness

@@ -14,16 +14,16 @@ use mathlib.Core.Bool.{cond, _&&_}
 use mathlib.Core.List.{List, [], _∷_, _++_}
 use lib.Dec.{leb, ltb}
 use lib.ListN.{getD, set, replicate}
-use Rattle.prelude.specs.Choice.{_unless_then_}
+use Rattle.prelude.specs.Checks.{Check, _else_, checked}
 use Rattle.answers.specs.declared.Answer.{Answer}
-use Rattle.answers.specs.declared.Answer.the-variants.{Done, NoSuchSlot, SlotClosed, NotSound, OutputTooShort}
+use Rattle.answers.specs.declared.Answer.the-variants.{Done, OutputTooShort}
 use Rattle.rows.specs.Rows.{slotCount, headOf, siteOf, binOf, heldBy, slotRank}
 use Rattle.house.specs.declared.House.{House}
 use Rattle.house.specs.declared.Row.{Row}
 use Rattle.house.specs.declared.Reported.{Reported}
 use Rattle.house.specs.declared.Listing.{Listing}
 use Rattle.house.specs.House.{rowCount, keysOf, sound}
-use Rattle.house.specs.Calls.{slotAt}
+use Rattle.house.specs.Calls.{slotAt, slotChecks}
 
 abbrev pub keyedRow : ℕ → ℕ → Row
 keyedRow key count = record { head = headOf key; site = siteOf key; bin = binOf key; count = count }
@@ -45,13 +45,12 @@ abbrev pub unreported : Answer → Reported
 unreported a = record { answer = a; rows = 0 }
 
 -- Order of checks, Report: 15, 1, 2, 17
+abbrev pub reportChecks : House → ℕ → ℕ → List (Check Answer)
+reportChecks h slot long = slotChecks h slot ++ ((leb (heldBy slot (keysOf h)) long else OutputTooShort) ∷ [])
+
 unfoldable pub reported : House → ℕ → ℕ → Reported
 reported h slot long =
-    unreported NotSound unless sound h then
-    unreported NoSuchSlot unless ltb slot slotCount then
-    unreported SlotClosed unless slotAt h slot .taken then
-    unreported OutputTooShort unless leb (heldBy slot (keysOf h)) long then
-    record { answer = Done; rows = heldBy slot (keysOf h) }
+    checked unreported (reportChecks h slot long) (record { answer = Done; rows = heldBy slot (keysOf h) })
 
 abbrev pub listed : (ℕ → Row) → ℕ → List Row
 listed row zero = []
