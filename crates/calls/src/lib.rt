@@ -6,23 +6,23 @@ use house::Figures;
 use house::House;
 use house::Room;
 use house::Slot;
-use lent::deliver_lent;
-use lent::is_sound;
-use lent::soundness_lent;
-use lent::soundness_of;
-use lent::unfilled_of;
+use judging::judge_lent;
+use lent::settle_lent;
 use session::Session;
 use session::Verdict;
-use session::judge_lent;
-use session::settle;
+use settling::settle;
+use soundness::is_sound;
+use soundness::soundness_lent;
+use soundness::soundness_of;
+use soundness::unfilled_of;
 ghost use mathlib.Core.Path.{_≡_};
 ghost use mathlib.Core.Bool.{true};
 ghost use Prim.Native.Nat.{_<_};
 ghost use lib.ListN.{length};
 ghost use Rattle.house.specs.House.{sound, promised};
-ghost use Rattle.house.specs.Deliver.{wantsRow, plainAnswer};
+ghost use Rattle.settling.specs.Settling.{Settles};
 ghost use Rattle.house.specs.Calls.{openSlot, closeSlot, deliver, figuresOf};
-ghost use Rattle.house.specs.Calls.{answered, slotAt, deliveredTo, withOutcome};
+ghost use Rattle.house.specs.Calls.{answered, slotAt, deliveredTo, settledTo, withOutcome};
 
 fn answer_with(answer: Answer, house: House) -> Answered
     ensures { λ r. ⌜ r ≡ answered answer house ⌝ }
@@ -125,28 +125,6 @@ pub fn deliver(house: House, slot: u32, rec: &[u8]) -> Answered
     deliver_to(h, told.promised, i, s, rec)
 }
 
-fn wants_row(verdict: Verdict) -> bool
-    ensures { λ r. ⌜ r ≡ wantsRow verdict ⌝ }
-{
-    match verdict {
-        Verdict::Refused(_) => false,
-        Verdict::Taken(_) => false,
-        Verdict::Opened(_, _, _) => false,
-        Verdict::Wanted(_, _, _) => true,
-    }
-}
-
-fn plain_answer(verdict: Verdict) -> Answer
-    ensures { λ r. ⌜ r ≡ plainAnswer verdict ⌝ }
-{
-    match verdict {
-        Verdict::Refused(answer) => answer,
-        Verdict::Taken(_) => Answer::Done,
-        Verdict::Opened(_, _, _) => Answer::Done,
-        Verdict::Wanted(_, _, _) => Answer::Done,
-    }
-}
-
 // .. to an open slot of a sound house, of which the test has told how many rows it owes. A record that asks for no row
 // is settled in the slot, and no row is touched.
 fn deliver_to(house: House, owed: u32, i: usize, s: Slot, rec: &[u8]) -> Answered
@@ -154,27 +132,31 @@ fn deliver_to(house: House, owed: u32, i: usize, s: Slot, rec: &[u8]) -> Answere
         × (length (house .slots) ≡ 16) × (owed ≡ promised house) ⌝ }
     ensures { λ r. ⌜ r ≡ withOutcome house i (deliveredTo house i (now (rec .entry))) ⌝ }
 {
-    let mut h = house;
     let session = s.session;
     let parts = session.parts;
     let verdict = judge_lent(session.standing, &parts, rec);
-    if wants_row(verdict) {
-        return deliver_rows(h, owed, i, s, rec);
+    match verdict {
+        Verdict::Refused(answer) => answer_with(answer, house),
+        Verdict::Taken(change) => {
+            let mut h = house;
+            let next = settle(session, change);
+            h.slots[i] = Slot {
+                taken: s.taken,
+                floor: s.floor,
+                session: next,
+            };
+            answer_with(Answer::Done, h)
+        }
+        Verdict::Wanted(_, _) => settle_rows(house, owed, i, s, verdict),
     }
-    let next = settle(session, verdict);
-    h.slots[i] = Slot {
-        taken: s.taken,
-        floor: s.floor,
-        session: next,
-    };
-    answer_with(plain_answer(verdict), h)
 }
 
-// .. where rows are asked for: the rows and the parts are lent, and laid back. One call has nothing to guess by.
-fn deliver_rows(house: House, owed: u32, i: usize, s: Slot, rec: &[u8]) -> Answered
+// A verdict that asks for a row, settled: the rows and the parts are lent, and laid back. One call has nothing to guess
+// by.
+fn settle_rows(house: House, owed: u32, i: usize, s: Slot, verdict: Verdict) -> Answered
     requires { ⌜ (sound house ≡ true) × (i < 16) × (s ≡ slotAt house i) × (s .taken ≡ true)
-        × (length (house .slots) ≡ 16) × (owed ≡ promised house) ⌝ }
-    ensures { λ r. ⌜ r ≡ withOutcome house i (deliveredTo house i (now (rec .entry))) ⌝ }
+        × (length (house .slots) ≡ 16) × (owed ≡ promised house) × Settles (s .session .standing .opened) verdict ⌝ }
+    ensures { λ r. ⌜ r ≡ withOutcome house i (settledTo house i verdict) ⌝ }
 {
     let mut h = house;
     let own = unfilled_of(i, s, &h.keys, h.used);
@@ -189,7 +171,7 @@ fn deliver_rows(house: House, owed: u32, i: usize, s: Slot, rec: &[u8]) -> Answe
     let mut counts = h.counts;
     let st = session.standing;
     let mut guesses: [u16; 1] = [0; 1];
-    let d = deliver_lent(
+    let d = settle_lent(
         &mut keys,
         &mut counts,
         h.used,
@@ -197,7 +179,7 @@ fn deliver_rows(house: House, owed: u32, i: usize, s: Slot, rec: &[u8]) -> Answe
         room,
         st,
         &mut parts,
-        rec,
+        verdict,
     );
     let answer = d.answer;
     let standing = d.standing;

@@ -10,7 +10,7 @@ use native.Mathlib.Omega.{arith}
 use borrow.Author.Tests.{le-leb, lt-leb, lt-ltb, le-ltb, leb-true, eqb-true}
 use lib.Dec.{leb, eqb}
 use lib.ListN.{length, getD, set, List·getD-map}
-use lib.Seq.{length-take-le}
+use lib.Seq.{length-take-le, set-getD}
 use Rattle.prelude.proofs.Both.{both-left, both-right}
 use Rattle.answers.specs.declared.Answer.{Answer}
 use Rattle.answers.specs.declared.Answer.the-variants as answer
@@ -22,20 +22,22 @@ use Rattle.session.specs.Session as session
 use Rattle.session.specs.Session.{mostResults}
 use Rattle.session.specs.declared.Session.{Session}
 use Rattle.session.specs.declared.Verdict.{Verdict}
-use Rattle.session.specs.After.{after, verdictOn}
-use Rattle.session.proofs.Judgement.{sound-kept}
+use Rattle.session.specs.declared.Change.{Change}
+use Rattle.session.specs.declared.Verdict.the-variants.{Refused, Taken}
+use Rattle.session.proofs.Laws.{sound-lent}
+use Rattle.settling.specs.Settling.{changed}
+use Rattle.judging.specs.Judge.{verdictOn}
 use Rattle.house.specs.declared.Slot.{Slot}
 use Rattle.house.specs.declared.House.{House}
 use Rattle.house.specs.declared.Room.{Room}
 use Rattle.house.specs.House.{rowCount, noSlot, closedSlot, openedSlot, keysOf, countsOf, free, unfilled}
 use Rattle.house.specs.House.{promisedFrom}
 use Rattle.house.specs.House.{promised, takenOf, rowsSound, slotSound, slotsSound, sound, Lent}
-use Rattle.house.specs.Deliver.{Outcome, core, delivered, wantsRow, plainAnswer, pastCounts}
-use Rattle.house.specs.Deliver.{LentCore}
-use Rattle.house.specs.Calls.{slotAt, withSlot, answered, openSlot, closeSlot, roomIn, roomOf, deliveredTo}
-use Rattle.house.specs.Calls.{withOutcome, deliver, figuresOf}
+use Rattle.house.specs.Deliver.{Outcome, core, settled, pastCounts, LentCore}
+use Rattle.house.specs.Calls.{slotAt, withSlot, answered, openSlot, closeSlot, roomIn, roomOf, coreOf, deliveredTo}
+use Rattle.house.specs.Calls.{settledTo, withOutcome, deliver, figuresOf}
 use Rattle.house.proofs.Laws.{lent-of}
-use Rattle.house.proofs.Delivering.{settled-plain}
+use Rattle.house.proofs.Delivering.{settled-refused, settled-taken, delivered-settled}
 
 -- ---- what soundness tells
 
@@ -290,7 +292,6 @@ module _ (slots : List Slot) (keys : List ℕ) (slot : ℕ) (s : Slot) (is : s �
   own-within inside =
       rw (told, seen, is) (rw (zero-add slot) at (unfilled-within 0 slots keys slot noSlot inside))
 
--- an open slot of a sound house lends its session and all rows
 -- an open slot's session is sound
 pub open-session : (h : House) (slot : ℕ) → sound h ≡ true → length (h .slots) ≡ slotCount → slot < slotCount
     → slotAt h slot .taken ≡ true
@@ -300,6 +301,7 @@ open-session h slot e slots-long inside t =
     (rw (zero-add slot) at (slots-at 0 (h .slots) (keysOf h) (countsOf h) slot noSlot (told-slots h e)
     (omega arith))) .session
 
+-- .. and the slot lends it and all rows
 pub lent-core : (h : House) (slot : ℕ) → sound h ≡ true → length (h .keys) ≡ rowCount → length (h .counts) ≡ rowCount
     → length (h .slots) ≡ slotCount → slot < slotCount → slotAt h slot .taken ≡ true
     → length (slotAt h slot .session .parts) ≡ 32
@@ -322,7 +324,7 @@ lent-core h slot e long paired slots-long inside t cells =
             low = told-low h e long paired slots-long;
             roomy = omega (arith, own, unfilled-is, told-rooms h e);
           };
-      kept = sound-kept (s .session) cells (told .session);
+      kept = sound-lent (s .session) cells (told .session);
       cells = cells;
     }
 
@@ -336,8 +338,8 @@ module _ (h : House) (slot : ℕ) {s : Slot} {room : Room} (is : s ≡ slotAt h 
       (lent-core h slot e long paired slots-long inside (ap (λ (x : Slot). x .taken) (sym is) ∙ t)
       (ap (λ (x : Slot). length (x .session .parts)) (sym is) ∙ cells))
 
-  pub laid-back : (rec : List ℕ) (o : Outcome)
-      → o ≡ delivered room (core (h .keys) (h .counts) (h .used) (s .session .standing) (s .session .parts)) rec
+  pub laid-back : (v : Verdict) (o : Outcome)
+      → o ≡ settled room (core (h .keys) (h .counts) (h .used) (s .session .standing) (s .session .parts)) v
       → answered (o .answer)
       (record {
         keys = o .core .keys;
@@ -351,24 +353,36 @@ module _ (h : House) (slot : ℕ) {s : Slot} {room : Room} (is : s ≡ slotAt h 
               session = record { standing = o .core .standing; parts = o .core .parts };
             });
       })
-      ≡ withOutcome h slot (deliveredTo h slot rec)
-  laid-back rec o did =
-      let done : o ≡ deliveredTo h slot rec = did ∙ rw (seen, is) in
+      ≡ withOutcome h slot (settledTo h slot v)
+  laid-back v o did =
+      let done : o ≡ settledTo h slot v = did ∙ rw (seen, is) in
       rw (← done, is)
 
--- .. and so is a session that no row was asked for
-pub laid-plain : (h : House) (slot : ℕ) (rec : List ℕ) (v : Verdict) (s : Slot) (next : Session) (a : Answer)
-    → s ≡ slotAt h slot → v ≡ verdictOn (s .session) rec → wantsRow v ≡ false → next ≡ after (s .session) v
-    → a ≡ plainAnswer v
-    → answered a (withSlot h slot (record { taken = s .taken; floor = s .floor; session = next }))
-    ≡ withOutcome h slot (deliveredTo h slot rec)
-unfolding delivered
-laid-plain h slot rec v s next a is said plain then told =
-    let judged : v ≡ verdictOn (slotAt h slot .session) rec = rw (← is) said in
-    rw (
-      told,
-      then,
-      is,
-      ← judged,
-      settled-plain (roomOf h slot) (h .keys) (h .counts) (h .used) (slotAt h slot .session) v plain,
-    )
+-- a slot that is laid back as it was
+pub same-slot : (h : House) (slot : ℕ) → withSlot h slot (slotAt h slot) ≡ h
+same-slot h slot =
+    ap (λ (slots : List Slot). record { keys = h .keys; counts = h .counts; used = h .used; slots = slots })
+    (set-getD (h .slots) slot noSlot)
+
+-- what a verdict on a record to an open slot makes of the house
+module _ (h : House) (slot : ℕ) (rec : List ℕ) {s : Slot} (is : s ≡ slotAt h slot) {v : Verdict}
+    (said : v ≡ verdictOn (s .session) rec) where
+  pub laid-settled : withOutcome h slot (settledTo h slot v) ≡ withOutcome h slot (deliveredTo h slot rec)
+  laid-settled =
+      let judged : v ≡ verdictOn (slotAt h slot .session) rec = rw (← is) said in
+      ap (withOutcome h slot) (delivered-settled (roomOf h slot) (coreOf h slot) rec judged)
+
+  pub laid-refused : {a : Answer} → v ≡ Refused a → answered a h ≡ withOutcome h slot (deliveredTo h slot rec)
+  laid-refused {a} e =
+      ap (answered a) (sym (same-slot h slot))
+      ∙ ap (withOutcome h slot) (settled-refused (roomOf h slot) (coreOf h slot) e)
+      ∙ laid-settled
+
+  pub laid-taken : {change : Change} → v ≡ Taken change → (next : Session) → next ≡ changed (s .session) change
+      → answered answer.Done (withSlot h slot (record { taken = s .taken; floor = s .floor; session = next }))
+      ≡ withOutcome h slot (deliveredTo h slot rec)
+  laid-taken {change} e next then =
+      let after : next ≡ changed (slotAt h slot .session) change = rw (← is) then in
+      rw is
+      (ap (withOutcome h slot) (settled-taken (roomOf h slot) (coreOf h slot) e next after)
+      ∙ laid-settled)

@@ -23,24 +23,26 @@ use Rattle.rows.proofs.Changes.{counted-length, counted-used, counted-kept, cou
 use Rattle.rows.proofs.Changes.{counted-right, dropped-length}
 use Rattle.rows.proofs.Changes.{dropped-used, dropped-kept, dropped-held-other, dropped-sum-other, dropped-right}
 use Rattle.session.specs.declared.Session.{Session}
-use Rattle.session.specs.declared.Standing.{Standing}
+use Rattle.session.specs.declared.Change.{Change}
 use Rattle.session.specs.declared.Verdict.{Verdict}
-use Rattle.session.specs.declared.Verdict.the-variants.{Refused, Taken, Opened, Wanted}
-use Rattle.session.specs.Laws as verdict
-use Rattle.session.specs.Laws.{KeyRight}
-use Rattle.session.specs.After.{after, verdictOn}
+use Rattle.session.specs.declared.Verdict.the-variants.{Refused, Taken, Wanted}
 use Rattle.session.specs.Session as session
 use Rattle.session.specs.Session.{mostOpen, mostResults, pastParts}
-use Rattle.session.proofs.Judgement.{begun-sound, judged-sound, judged-counts, judged-few, judged-key, judged-long}
+use Rattle.session.proofs.Laws.{begun-sound}
+use Rattle.settling.specs.Settling as verdict
+use Rattle.settling.specs.Settling.{changed, after}
+use Rattle.judging.specs.Judge.{verdictOn}
+use Rattle.judging.specs.Laws.{KeyRight}
+use Rattle.judging.proofs.Laws.{judged-sound, judged-counts, judged-few, judged-key, judged-long}
 use Rattle.house.specs.declared.Slot.{Slot}
 use Rattle.house.specs.declared.House.{House}
 use Rattle.house.specs.declared.Answered.{Answered}
 use Rattle.house.specs.House.{rowCount, noSlot, closedSlot, openedSlot, fresh, keysOf, countsOf, free, unfilled}
 use Rattle.house.specs.House.{promisedFrom, promised, takenOf, rowsSound, slotSound, slotsSound, sound}
-use Rattle.house.specs.Deliver.{core, granted, rowTaken, resultedIf, settled}
+use Rattle.house.specs.Deliver.{granted, rowTaken, resultedIf, settled}
 use Rattle.house.specs.Deliver.{delivered, LentCore}
-use Rattle.house.specs.Calls.{slotAt, withSlot, openSlot, closed, closeSlot, roomOf, withOutcome}
-use Rattle.house.specs.Calls.{deliver}
+use Rattle.house.specs.Calls.{slotAt, withSlot, openSlot, closed, closeSlot, roomOf, coreOf, settledTo}
+use Rattle.house.specs.Calls.{withOutcome, deliver}
 use Rattle.house.specs.Laws.{Shaped, FreshSound, OpenKeeps, CloseKeeps, DeliverKeeps, BelowFloor}
 use Rattle.house.specs.Laws.{ReachedSound}
 use Rattle.house.specs.History as calls
@@ -475,40 +477,29 @@ module _ (h : House) (slot : ℕ) (shape : Shaped h) (e : sound h ≡ true) (ins
   -- ---- any verdict
 
   -- a part result: granted, or refused for room with nothing changed
-  wanted-sound : (st : Standing) (rank key : ℕ) → session.sound (after (s .session) (Wanted st rank key)) ≡ true
-      → after (s .session) (Wanted st rank key) .standing .results ≡ s .session .standing .results + 1
-      → after (s .session) (Wanted st rank key) .standing .results ≤ mostResults
-      → KeyRight (Wanted st rank key)
+  wanted-sound : (change : Change) (key : ℕ) → session.sound (changed (s .session) change) ≡ true
+      → changed (s .session) change .standing .results ≡ s .session .standing .results + 1
+      → changed (s .session) change .standing .results ≤ mostResults
+      → KeyRight (Wanted change key)
       → (b : Bool) → granted (roomOf h slot) keys (rowKey slot key) ≡ b
-      → sound
-      (withOutcome h slot
-      (resultedIf (roomOf h slot) (h .keys) (h .counts) (h .used) (s .session .standing) (s .session .parts) st rank
-      key)
-      .house)
-      ≡ true
-  unfolding resultedIf rowTaken after
-  wanted-sound st rank key fine more few right true got =
-      rw got (result-sound key right got (after (s .session) (Wanted st rank key)) fine few more)
-  wanted-sound st rank key fine more few right false got = rw got (session-sound (s .session) (told .session) refl)
+      → sound (withOutcome h slot (resultedIf (roomOf h slot) (coreOf h slot) change key) .house) ≡ true
+  unfolding resultedIf rowTaken
+  wanted-sound change key fine more few right true got =
+      rw got (result-sound key right got (changed (s .session) change) fine few more)
+  wanted-sound change key fine more few right false got = rw got (session-sound (s .session) (told .session) refl)
 
   abbrev ses : Session
   ses = s .session
 
   settled-sound : (v : Verdict) → session.sound (after ses v) ≡ true
-      → after ses v .standing .results ≡ ses .standing .results + verdict.counted v
+      → after ses v .standing .results ≡ ses .standing .results + verdict.counts v
       → after ses v .standing .results ≤ mostResults → KeyRight v
-      → sound
-      (withOutcome h slot
-      (settled (roomOf h slot) (core (h .keys) (h .counts) (h .used) (ses .standing) (ses .parts)) v)
-      .house)
-      ≡ true
+      → sound (withOutcome h slot (settledTo h slot v) .house) ≡ true
   unfolding settled after
   settled-sound (Refused a) fine more few right = session-sound ses (told .session) refl
-  settled-sound (Taken st) fine more few right = session-sound (after ses (Taken st)) fine (omega (arith, more))
-  settled-sound (Opened st rank part) fine more few right =
-      session-sound (after ses (Opened st rank part)) fine (omega (arith, more))
-  settled-sound (Wanted st rank key) fine more few right =
-      wanted-sound st rank key fine more few right (granted (roomOf h slot) keys (rowKey slot key)) refl
+  settled-sound (Taken change) fine more few right = session-sound (changed ses change) fine (omega (arith, more))
+  settled-sound (Wanted change key) fine more few right =
+      wanted-sound change key fine more few right (granted (roomOf h slot) keys (rowKey slot key)) refl
 
 pub deliver-keeps : DeliverKeeps
 unfolding deliver delivered
@@ -527,7 +518,7 @@ deliver-keeps h slot rec bytes shape e =
 
 pub below-floor : BelowFloor
 unfolding deliver delivered settled resultedIf rowTaken granted
-below-floor h slot rec st rank key e inside t asks low =
+below-floor h slot rec change key e inside t asks low =
     go (held (rowKey slot key) (keysOf h)) refl
   where
     go : (b : Bool) → held (rowKey slot key) (keysOf h) ≡ b → deliver h slot rec .answer ≡ Done
@@ -596,35 +587,28 @@ module _ (h : House) (slot : ℕ) (shape : Shaped h) (e : sound h ≡ true) (ins
   abbrev current : Session
   current = slotAt h slot .session
 
-  wanted-shaped : (st : Standing) (rank key : ℕ) → length (after current (Wanted st rank key) .parts) ≡ mostOpen
-      → KeyRight (Wanted st rank key) → (b : Bool) → granted (roomOf h slot) (keysOf h) (rowKey slot key) ≡ b
-      → Shaped
-      (withOutcome h slot
-      (resultedIf (roomOf h slot) (h .keys) (h .counts) (h .used) (current .standing) (current .parts) st rank key)
-      .house)
-  unfolding resultedIf rowTaken after
-  wanted-shaped st rank key cells right true got =
+  wanted-shaped : (change : Change) (key : ℕ) → length (changed current change .parts) ≡ mostOpen
+      → KeyRight (Wanted change key) → (b : Bool) → granted (roomOf h slot) (keysOf h) (rowKey slot key) ≡ b
+      → Shaped (withOutcome h slot (resultedIf (roomOf h slot) (coreOf h slot) change key) .house)
+  unfolding resultedIf rowTaken
+  wanted-shaped change key cells right true got =
       let rows = counted (h .keys) (h .counts) (h .used) (rowKey slot key) in
       let kept = keys-kept h slot shape e inside in
       let room = room h slot shape e inside t key right got in
       let long = counted-length (h .keys) (h .counts) (h .used) (rowKey slot key) kept room ∙ shape .keys in
       rw got
       (shaped-by h (rows .keys) (rows .counts) (rows .used) slot
-      (withSession (slotAt h slot) (after current (Wanted st rank key))) shape long
+      (withSession (slotAt h slot) (changed current change)) shape long
       (counted-kept (h .keys) (h .counts) (h .used) (rowKey slot key) kept room .paired ∙ long) cells inside)
-  wanted-shaped st rank key cells right false got = rw got (session-shaped current (shape .parts slot inside))
+  wanted-shaped change key cells right false got = rw got (session-shaped current (shape .parts slot inside))
 
   settled-shaped : (v : Verdict) → length (after current v .parts) ≡ mostOpen → KeyRight v
-      → Shaped
-      (withOutcome h slot
-      (settled (roomOf h slot) (core (h .keys) (h .counts) (h .used) (current .standing) (current .parts)) v)
-      .house)
+      → Shaped (withOutcome h slot (settledTo h slot v) .house)
   unfolding settled after
   settled-shaped (Refused a) cells right = session-shaped current cells
-  settled-shaped (Taken st) cells right = session-shaped (after current (Taken st)) cells
-  settled-shaped (Opened st rank part) cells right = session-shaped (after current (Opened st rank part)) cells
-  settled-shaped (Wanted st rank key) cells right =
-      wanted-shaped st rank key cells right (granted (roomOf h slot) (keysOf h) (rowKey slot key)) refl
+  settled-shaped (Taken change) cells right = session-shaped (changed current change) cells
+  settled-shaped (Wanted change key) cells right =
+      wanted-shaped change key cells right (granted (roomOf h slot) (keysOf h) (rowKey slot key)) refl
 
 deliver-shaped : (h : House) (slot : ℕ) (rec : List ℕ) → Bytes rec → Shaped h → Shaped (deliver h slot rec .house)
 unfolding deliver delivered

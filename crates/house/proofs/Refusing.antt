@@ -8,7 +8,6 @@ use Prim.Native.Nat.{ℕ, zero, suc, _-_, _≤_, _<_}
 use native.Mathlib.Omega.{arith}
 use lib.Dec.{leb, ltb, eqb}
 use lib.ListN.{length, drop, set, length-append}
-use lib.Seq.{set-getD}
 use Rattle.prelude.specs.Choice.{_unless_then_}
 use Rattle.prelude.specs.Checks.{_else_, numberBy}
 use Rattle.prelude.proofs.Checks.{check-first}
@@ -18,24 +17,24 @@ use Rattle.answers.specs.declared.Answer.the-variants.{Done}
 use Rattle.answers.specs.Numbers.{numberOf}
 use Rattle.rows.specs.Rows.{slotCount, rowKey, heldBy}
 use Rattle.session.specs.declared.Verdict.{Verdict}
-use Rattle.session.specs.declared.Verdict.the-variants.{Refused, Taken, Opened, Wanted}
-use Rattle.session.specs.Session.{partsOf}
-use Rattle.session.specs.After.{verdictOn}
-use Rattle.session.specs.Results.{ofRecord, verdictNumber}
-use Rattle.session.proofs.Judgement.{judged-refusal}
+use Rattle.session.specs.declared.Verdict.the-variants.{Refused, Taken, Wanted}
+use Rattle.session.specs.Verdicts.{verdictNumber, byItself}
+use Rattle.judging.specs.Judge.{verdictOn}
+use Rattle.judging.proofs.Laws.{judged-refusal}
 use Rattle.house.specs.declared.House.{House}
-use Rattle.house.specs.declared.Slot.{Slot}
 use Rattle.house.specs.declared.Row.{Row}
 use Rattle.house.specs.declared.Reported.{Reported}
 use Rattle.house.specs.declared.Figures.{Figures}
 use Rattle.house.specs.declared.Answered.{Answered}
-use Rattle.house.specs.House.{rowCount, noSlot, keysOf, free, promised, sound}
-use Rattle.house.specs.Deliver.{core, granted, rowTaken, resultedIf, settled, delivered}
-use Rattle.house.specs.Calls.{slotAt, withSlot, openSlot, closeSlot, roomOf, withOutcome, deliver, figuresOf}
+use Rattle.house.specs.House.{rowCount, keysOf, free, promised, sound}
+use Rattle.house.specs.Deliver.{granted, rowTaken, resultedIf, settled, delivered}
+use Rattle.house.specs.Calls.{slotAt, openSlot, closeSlot, roomOf, coreOf, settledTo, withOutcome, deliver}
+use Rattle.house.specs.Calls.{figuresOf}
 use Rattle.house.specs.Report.{rowAt, reported, listed, filled}
 use Rattle.house.specs.History.{Open, Deliver, Report, Close, Figured}
 use Rattle.house.specs.Demands.{RefusedKeeps, RefusedWrites, ReportWrites, roomFor, Accepted}
 use Rattle.house.specs.Demands.{OpenNumber, DeliverNumber, ReportNumber, CloseNumber, FiguresNumber}
+use Rattle.house.proofs.Calling.{same-slot}
 use Rattle.house.proofs.Reporting.{few}
 
 -- ---- a refusal changes nothing
@@ -48,31 +47,17 @@ chosen : (P : Answered → Type 0) (a : Answered) (t : Bool) (b : Answered) → 
 chosen P a true b x y = y
 chosen P a false b x y = x
 
--- a slot that is laid back as it was
-laid-back : (h : House) (slot : ℕ) → withSlot h slot (slotAt h slot) ≡ h
-laid-back h slot =
-    ap (λ (slots : List Slot). record { keys = h .keys; counts = h .counts; used = h .used; slots = slots })
-    (set-getD (h .slots) slot noSlot)
-
-settled-keeps : (h : House) (slot : ℕ) (v : Verdict)
-    → Keeps h
-    (withOutcome h slot
-    (settled (roomOf h slot)
-    (core (h .keys) (h .counts) (h .used) (slotAt h slot .session .standing) (slotAt h slot .session .parts)) v))
+settled-keeps : (h : House) (slot : ℕ) (v : Verdict) → Keeps h (withOutcome h slot (settledTo h slot v))
 unfolding settled resultedIf rowTaken
-settled-keeps h slot (Refused a) refused = laid-back h slot
-settled-keeps h slot (Taken next) refused = absurd (refused refl)
-settled-keeps h slot (Opened next rank part) refused = absurd (refused refl)
-settled-keeps h slot (Wanted next rank key) refused =
+settled-keeps h slot (Refused a) refused = same-slot h slot
+settled-keeps h slot (Taken change) refused = absurd (refused refl)
+settled-keeps h slot (Wanted change key) refused =
     go (granted (roomOf h slot) (keysOf h) (rowKey slot key)) refl refused
   where
     go : (b : Bool) → granted (roomOf h slot) (keysOf h) (rowKey slot key) ≡ b
-        → Keeps h
-        (withOutcome h slot
-        (resultedIf (roomOf h slot) (h .keys) (h .counts) (h .used) (slotAt h slot .session .standing)
-        (slotAt h slot .session .parts) next rank key))
+        → Keeps h (withOutcome h slot (resultedIf (roomOf h slot) (coreOf h slot) change key))
     go true got = rw got (λ refused. absurd (refused refl))
-    go false got = rw got (λ refused. laid-back h slot)
+    go false got = rw got (λ refused. same-slot h slot)
 
 pub refused-keeps : RefusedKeeps
 unfolding openSlot deliver delivered closeSlot
@@ -157,7 +142,7 @@ open-number h slot floor =
     check-first number _ (leb floor (free h - promised h)) _ 13 0 refl (λ wide. refl)))))
 
 -- a record by itself is never refused with 0
-pub own-number : (a : Answer) → ofRecord a ≡ true → eqb (numberOf a) 0 ≡ false
+pub own-number : (a : Answer) → byItself a ≡ true → eqb (numberOf a) 0 ≡ false
 own-number answer.Done is = absurd (false≢true is)
 own-number answer.NoSuchSlot is = refl
 own-number answer.SlotTaken is = refl
@@ -181,23 +166,16 @@ own-number answer.NotACountLine is = refl
 own-number answer.NameNotText is = refl
 
 -- a verdict's own number, then 13
-settled-number : (h : House) (slot : ℕ) (v : Verdict) → ((a : Answer) → v ≡ Refused a → ofRecord a ≡ true)
-    → number
-    (withOutcome h slot
-    (settled (roomOf h slot)
-    (core (h .keys) (h .counts) (h .used) (slotAt h slot .session .standing) (slotAt h slot .session .parts)) v))
+settled-number : (h : House) (slot : ℕ) (v : Verdict) → ((a : Answer) → v ≡ Refused a → byItself a ≡ true)
+    → number (withOutcome h slot (settledTo h slot v))
     ≡ numberBy ((eqb (verdictNumber v) 0 else verdictNumber v) ∷ (roomFor h slot v else 13) ∷ [])
 unfolding settled resultedIf rowTaken
 settled-number h slot (Refused a) own = rw (own-number a (own a refl))
-settled-number h slot (Taken next) own = refl
-settled-number h slot (Opened next rank part) own = refl
-settled-number h slot (Wanted next rank key) own = go (granted (roomOf h slot) (keysOf h) (rowKey slot key)) refl
+settled-number h slot (Taken change) own = refl
+settled-number h slot (Wanted change key) own = go (granted (roomOf h slot) (keysOf h) (rowKey slot key)) refl
   where
     go : (b : Bool) → granted (roomOf h slot) (keysOf h) (rowKey slot key) ≡ b
-        → number
-        (withOutcome h slot
-        (resultedIf (roomOf h slot) (h .keys) (h .counts) (h .used) (slotAt h slot .session .standing)
-        (slotAt h slot .session .parts) next rank key))
+        → number (withOutcome h slot (resultedIf (roomOf h slot) (coreOf h slot) change key))
         ≡ numberBy ((granted (roomOf h slot) (keysOf h) (rowKey slot key) else 13) ∷ [])
     go true got = rw got
     go false got = rw got
@@ -209,7 +187,7 @@ deliver-number h slot rec =
     check-first number _ (sound h) _ 15 _ refl (λ fine.
     check-first number _ (ltb slot slotCount) _ 1 _ refl (λ inside.
     check-first number _ (slotAt h slot .taken) _ 2 _ refl (λ t.
-    settled-number h slot (verdictOn s rec) (λ a is. judged-refusal (s .standing) (partsOf s) rec a is))))
+    settled-number h slot (verdictOn s rec) (λ a is. judged-refusal s rec a is))))
 
 pub report-number : ReportNumber
 unfolding reported

@@ -17,18 +17,18 @@ use Rattle.rising.proofs.Laws.{rising-apart}
 use Rattle.rows.specs.Rows.{slotCount, slotOf, rowKey, heldBy}
 use Rattle.rows.proofs.Laws.{row-taken, right-at}
 use Rattle.session.specs.declared.Verdict.{Verdict}
-use Rattle.session.specs.declared.Verdict.the-variants.{Refused, Taken, Opened, Wanted}
-use Rattle.session.specs.Session.{partsOf}
-use Rattle.session.specs.After.{verdictOn}
-use Rattle.session.specs.Results.{ofRecord}
-use Rattle.session.proofs.Judgement.{judged-refusal}
+use Rattle.session.specs.declared.Verdict.the-variants.{Refused, Taken, Wanted}
+use Rattle.session.specs.Verdicts.{byItself}
+use Rattle.judging.specs.Judge.{verdictOn}
+use Rattle.judging.proofs.Laws.{judged-refusal}
 use Rattle.house.specs.declared.Slot.{Slot}
 use Rattle.house.specs.declared.House.{House}
 use Rattle.house.specs.declared.Answered.{Answered}
 use Rattle.house.specs.declared.Reported.{Reported}
 use Rattle.house.specs.House.{rowCount, noSlot, fresh, keysOf, countsOf, free, promised, takenOf, sound}
-use Rattle.house.specs.Deliver.{core, granted, rowTaken, resultedIf, settled, delivered}
-use Rattle.house.specs.Calls.{slotAt, openSlot, closeSlot, deliver, roomOf, withOutcome, figuresOf}
+use Rattle.house.specs.Deliver.{granted, rowTaken, resultedIf, settled, delivered}
+use Rattle.house.specs.Calls.{slotAt, openSlot, closeSlot, deliver, roomOf, coreOf, settledTo, withOutcome}
+use Rattle.house.specs.Calls.{figuresOf}
 use Rattle.house.specs.Report.{reported}
 use Rattle.house.specs.History.{Call, Open, Deliver, Report, Close, Figured, reply, answerOf, reached, AllSent}
 use Rattle.house.specs.Demands.{NeverUnsound, RowsHeld, KeysDiffer}
@@ -50,25 +50,16 @@ neither given a false b x y = x
 abbrev given : Answered → Answer
 given o = o .answer
 
-settled-other : (h : House) (slot : ℕ) (v : Verdict) → ((a : Answer) → v ≡ Refused a → ofRecord a ≡ true)
-    → Other
-    (given
-    (withOutcome h slot
-    (settled (roomOf h slot)
-    (core (h .keys) (h .counts) (h .used) (slotAt h slot .session .standing) (slotAt h slot .session .parts)) v)))
+settled-other : (h : House) (slot : ℕ) (v : Verdict) → ((a : Answer) → v ≡ Refused a → byItself a ≡ true)
+    → Other (given (withOutcome h slot (settledTo h slot v)))
 unfolding settled resultedIf rowTaken
-settled-other h slot (Refused a) own is = false≢true (sym (ap ofRecord is) ∙ own a refl)
-settled-other h slot (Taken next) own is = omega (arith, ap numberOf is)
-settled-other h slot (Opened next rank part) own is = omega (arith, ap numberOf is)
-settled-other h slot (Wanted next rank key) own is =
+settled-other h slot (Refused a) own is = false≢true (sym (ap byItself is) ∙ own a refl)
+settled-other h slot (Taken change) own is = omega (arith, ap numberOf is)
+settled-other h slot (Wanted change key) own is =
     go (granted (roomOf h slot) (keysOf h) (rowKey slot key)) refl is
   where
     go : (b : Bool) → granted (roomOf h slot) (keysOf h) (rowKey slot key) ≡ b
-        → Other
-        (given
-        (withOutcome h slot
-        (resultedIf (roomOf h slot) (h .keys) (h .counts) (h .used) (slotAt h slot .session .standing)
-        (slotAt h slot .session .parts) next rank key)))
+        → Other (given (withOutcome h slot (resultedIf (roomOf h slot) (coreOf h slot) change key)))
     go true got = rw got (λ q. omega (arith, ap numberOf q))
     go false got = rw got (λ q. omega (arith, ap numberOf q))
 
@@ -87,7 +78,7 @@ module _ (h : House) (e : sound h ≡ true) where
       rw e
       (neither given _ (ltb slot slotCount) _ (λ q. omega (arith, ap numberOf q))
       (neither given _ (slotAt h slot .taken) _ (λ q. omega (arith, ap numberOf q))
-      (settled-other h slot (verdictOn s rec) (λ a is. judged-refusal (s .standing) (partsOf s) rec a is))))
+      (settled-other h slot (verdictOn s rec) (λ a is. judged-refusal s rec a is))))
   sound-other (Report slot long) =
       rw e
       (neither (λ (r : Reported). r .answer) _ (ltb slot slotCount) _ (λ q. omega (arith, ap numberOf q))

@@ -12,6 +12,7 @@ use Rattle.answers.specs.declared.Answer.{Answer}
 use Rattle.answers.specs.declared.Answer.the-variants.{Done, NoSuchSlot, SlotTaken, SlotClosed, NoRoom, NotSound}
 use Rattle.answers.specs.declared.Answer.the-variants.{FloorTooHigh}
 use Rattle.rows.specs.Rows.{slotCount, slotDropped}
+use Rattle.session.specs.declared.Verdict.{Verdict}
 use Rattle.house.specs.declared.Slot.{Slot}
 use Rattle.house.specs.declared.House.{House}
 use Rattle.house.specs.declared.Room.{Room}
@@ -19,7 +20,7 @@ use Rattle.house.specs.declared.Answered.{Answered}
 use Rattle.house.specs.declared.Figures.{Figures}
 use Rattle.house.specs.House.{rowCount, noSlot, closedSlot, openedSlot, keysOf, free, unfilled}
 use Rattle.house.specs.House.{promisedFrom, promised, sound}
-use Rattle.house.specs.Deliver.{Outcome, core, delivered}
+use Rattle.house.specs.Deliver.{Core, Outcome, core, settled, delivered}
 
 abbrev pub slotAt : House → ℕ → Slot
 slotAt h slot = getD (h .slots) slot noSlot
@@ -80,11 +81,19 @@ roomIn slots keys slot =
 abbrev pub roomOf : House → ℕ → Room
 roomOf h slot = roomIn (h .slots) (keysOf h) slot
 
+-- what a delivery to a slot may change
+abbrev pub coreOf : House → ℕ → Core
+coreOf h slot =
+    let s = slotAt h slot .session in
+    core (h .keys) (h .counts) (h .used) (s .standing) (s .parts)
+
 -- what a record does to a slot's session and to the rows
 abbrev pub deliveredTo : House → ℕ → List ℕ → Outcome
-deliveredTo h slot rec =
-    let s = slotAt h slot in
-    delivered (roomOf h slot) (core (h .keys) (h .counts) (h .used) (s .session .standing) (s .session .parts)) rec
+deliveredTo h slot rec = delivered (roomOf h slot) (coreOf h slot) rec
+
+-- .. and what a verdict on one does
+abbrev pub settledTo : House → ℕ → Verdict → Outcome
+settledTo h slot v = settled (roomOf h slot) (coreOf h slot) v
 
 -- the house with what a record made of a slot's session and of the rows
 abbrev pub withOutcome : House → ℕ → Outcome → Answered

@@ -4,7 +4,8 @@
 --   partsOf         a session's open parts
 --   begun           a session that has followed nothing yet
 --   sound           document 01's conditions on a sound session
---   Kept            what a session's parts are when they are lent
+--   isStart         whether a stream has not begun, and Follows what it is once it has
+--   LentParts       what a session's parts are when they are lent
 -- Assumes nothing.
 use Prim.Native.Nat.{ℕ, _+_, _*_, _≤_}
 use mathlib.Core.Path.{_≡_}
@@ -12,6 +13,7 @@ use mathlib.Core.Bool.{Bool, true, false, not, _&&_}
 use mathlib.Core.List.{List}
 use lib.Dec.{eqb, leb}
 use lib.ListN.{length, take, replicate}
+use Rattle.numbers.specs.declared.Order.{Order}
 use Rattle.numbers.specs.declared.Order.the-variants.{HighFirst}
 use Rattle.order.specs.declared.Place.{Place}
 use Rattle.order.specs.declared.Place.the-variants.{Start, Header, Lot, Setup, Body, Ended}
@@ -48,6 +50,10 @@ isStart Setup = false
 isStart Body = false
 isStart Ended = false
 
+-- a stream that has begun, in a byte order
+abbrev pub Follows : Order → Standing → Type 0
+Follows order st = (isStart (st .place) ≡ false) × (st .order ≡ order)
+
 -- a slot opened starts anew
 abbrev pub begun : Session
 begun =
@@ -79,7 +85,7 @@ unfoldable pub sound : Session → Bool
 sound s = partsRight (s .standing .opened) (s .parts) && standsRight (s .standing .place) (s .standing)
 
 -- what is known of the cells that a sound session's parts are lent in
-pub record Kept (st : Standing) (cells : List ℕ) : Type 0 where
+pub record LentParts (st : Standing) (cells : List ℕ) : Type 0 where
   pub few : st .opened ≤ mostOpen
   pub within : st .opened ≤ length cells
   pub rises : rising (take (st .opened) cells) ≡ true

@@ -5,12 +5,14 @@ use mathlib.Core.Bool.{true}
 use lib.ListN.{length}
 use denote.Ref.{now}
 use borrow.Author.Needs.{needs}
-use Rattle.session.specs.Session.{Kept}
 use Rattle.session.specs.Session as session
-use Rattle.session.specs.Laws.{Within}
-use Rattle.session.proofs.Judgement.{sound-parts-told, sound-kept, judged-within}
+use Rattle.session.specs.Session.{LentParts}
+use Rattle.session.proofs.Laws.{sound-lent}
+use Rattle.settling.specs.Settling.{Settles}
+use Rattle.settling.proofs.Laws.{settles-taken}
+use Rattle.judging.proofs.Laws.{judged-settles}
 use Rattle.house.specs.declared.Slot.{Slot}
-use Rattle.house.proofs.Calling.{open-session, laid-plain}
+use Rattle.house.proofs.Calling.{open-session, laid-refused, laid-taken, laid-settled}
 use Rattle.calls.proofs.deliver_to.Statement.{statement}
 use Rattle.calls.proofs.deliver_to.Tie as tie
 
@@ -23,60 +25,82 @@ sounded c =
     (open-session (c .args .house) (c .args .i) (c .pre .0) (c .pre .4) (c .pre .1)
     (ap (λ (x : Slot). x .taken) (sym (c .pre .2)) ∙ c .pre .3))
 
-kept : (c : tie.Start) → Kept (c .args .s .session .standing) (c .args .s .session .parts)
-kept c = sound-kept (c .args .s .session) (cells c) (sounded c)
+lent : (c : tie.Start) → LentParts (c .args .s .session .standing) (c .args .s .session .parts)
+lent c = sound-lent (c .args .s .session) (cells c) (sounded c)
+
+abbrev start : tie.After-judge-lent → tie.Start
+start c = c .before .before .before .before .before
+
+-- the verdict's change, if any, may be settled
+fits : (c : tie.After-judge-lent) → Settles (start c .args .s .session .standing .opened) (c .judge-lent .result)
+fits c =
+    let s = start c .args .s .session in
+    subst (Settles (s .standing .opened)) (sym (c .judge-lent .ensures))
+    (judged-settles (s .standing) (s .parts) (now (start c .args .rec)) (lent (start c)))
 
 judge-lent-requires : tie.Need-judge-lent-requires
-judge-lent-requires c κs = kept (c .before .before .before .before)
+judge-lent-requires c κs = lent (c .before .before .before .before)
 
 settle-requires : tie.Need-settle-requires
 settle-requires c κs =
-    let start = c .before .before .before .before .before .before .before in
-    let s = start .args .s .session in (
-      sound-parts-told s (sounded start) .few,
-      subst (Within (s .standing .opened)) (sym (c .before .before .judge-lent .ensures))
-          (judged-within (s .standing) (s .parts) (now (start .args .rec)) (kept start)),
-    )
+    let judged = c .before .before .before in
+    (lent (start judged) .few, settles-taken _ (fits judged) (c .before .verdict2 .given .1))
+
+settle-rows-requires : tie.Need-settle-rows-requires
+settle-rows-requires c κs =
+    let judged = c .before .before in
+    let p = start judged .pre in
+    (p .0, p .1, p .2, p .3, p .4, p .5, fits judged)
+
+returns : tie.Need-returns
+returns c =
+    let judged = c .before .before .before .before in
+    let begun = start judged in
+    c .answer-with .ensures
+    ∙ laid-refused (begun .args .house) (begun .args .i) (now (begun .args .rec)) (begun .pre .2)
+    (judged .judge-lent .ensures) (c .before .before .verdict .given .1)
 
 returns-2 : tie.Need-returns-2
 returns-2 c =
-    let told = c .before in
-    let settled = told .before in
-    let plain = settled .before in
-    let asked = plain .before in
-    let judged = asked .before in
-    let start = judged .before .before .before .before .before in
-    c .answer-with .ensures
-    ∙ laid-plain (start .args .house) (start .args .i) (now (start .args .rec)) (judged .judge-lent .result)
-    (start .args .s) (settled .settle .result) (told .plain-answer .result) (start .pre .2)
-    (judged .judge-lent .ensures) (sym (asked .wants-row .ensures) ∙ plain .if1 .left) (settled .settle .ensures)
-    (told .plain-answer .ensures)
+    let judged = c .before .before .before .before .before in
+    let begun = start judged in
+    c .answer-with2 .ensures
+    ∙ laid-taken (begun .args .house) (begun .args .i) (now (begun .args .rec)) (begun .pre .2)
+    (judged .judge-lent .ensures) (c .before .before .before .verdict2 .given .1) _ (c .before .settle .ensures)
+
+returns-3 : tie.Need-returns-3
+returns-3 c =
+    let judged = c .before .before .before in
+    let begun = start judged in
+    c .settle-rows .ensures
+    ∙ laid-settled (begun .args .house) (begun .args .i) (now (begun .args .rec)) (begun .pre .2)
+    (judged .judge-lent .ensures)
 
 -- ---- found by search
 
 slice-aggregate-judge-lent : tie.Need-slice-aggregate-judge-lent
 slice-aggregate-judge-lent c = search needs
 
-wants-row-requires : tie.Need-wants-row-requires
-wants-row-requires c κs = search needs
+enum-known-verdict : tie.Need-enum-known-verdict
+enum-known-verdict c = search needs
 
-deliver-rows-requires : tie.Need-deliver-rows-requires
-deliver-rows-requires c κs = search needs
+answer-with-requires : tie.Need-answer-with-requires
+answer-with-requires c κs = search needs
 
-returns : tie.Need-returns
-returns c = search needs
+enum-known-verdict-2 : tie.Need-enum-known-verdict-2
+enum-known-verdict-2 c = search needs
 
-mul-t16 : tie.Need-mul-t16
-mul-t16 c = search needs
+mul-t17 : tie.Need-mul-t17
+mul-t17 c = search needs
 
 element-set-from-h : tie.Need-element-set-from-h
 element-set-from-h c = search needs
 
-plain-answer-requires : tie.Need-plain-answer-requires
-plain-answer-requires c κs = search needs
+answer-with-requires-2 : tie.Need-answer-with-requires-2
+answer-with-requires-2 c κs = search needs
 
-answer-with-requires : tie.Need-answer-with-requires
-answer-with-requires c κs = search needs
+enum-told : tie.Need-enum-told
+enum-told c = search needs
 
 pub deliver-to-spec : {M : Type 1} → statement M
 deliver-to-spec =
@@ -84,12 +108,15 @@ deliver-to-spec =
     (tie.spec
     slice-aggregate-judge-lent
     judge-lent-requires
-    wants-row-requires
-    deliver-rows-requires
-    returns
-    settle-requires
-    mul-t16
-    element-set-from-h
-    plain-answer-requires
+    enum-known-verdict
     answer-with-requires
-    returns-2)
+    enum-known-verdict-2
+    settle-requires
+    mul-t17
+    element-set-from-h
+    answer-with-requires-2
+    enum-told
+    settle-rows-requires
+    returns
+    returns-2
+    returns-3)

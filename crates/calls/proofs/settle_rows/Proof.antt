@@ -1,0 +1,105 @@
+-- `calls::settle_rows` meets its contract: an open slot of a sound house lends its session and all rows, and
+-- takes them back.
+-- Assumes nothing.
+use mathlib.Core.Path.{_≡_, _∙_}
+use Prim.Native.Nat.{_-_}
+use native.Mathlib.Omega.{arith}
+use lib.ListN.{length}
+use borrow.Author.Needs.{needs}
+use Rattle.house.specs.House.{keysOf}
+use Rattle.house.specs.Calls.{roomOf}
+use Rattle.house.proofs.Laws.{lent-keys}
+use Rattle.house.proofs.Calling.{told-lent, room-is, own-within, lent-to, laid-back}
+use Rattle.calls.proofs.settle_rows.Statement.{statement}
+use Rattle.calls.proofs.settle_rows.Tie as tie
+
+cells : (c : tie.Start) → length (c .args .s .session .parts) ≡ 32
+cells c = search needs
+
+paired : (c : tie.Start) → length (c .args .house .counts) ≡ 1024
+paired c = search needs
+
+long : (c : tie.Start) → length (c .args .house .keys) ≡ 1024
+long c = search needs
+
+-- what the slot sees of the house, once its own unfilled rows are known
+module _ (roomy : tie.After-unfilled-of) where
+  abbrev start : tie.Start
+  start = roomy .before .before .before
+
+  seen : record {
+    slot = start .args .i;
+    floor = start .args .s .floor;
+    others = start .args .owed - roomy .unfilled-of .result;
+  }
+      ≡ roomOf (start .args .house) (start .args .i)
+  seen =
+      room-is (start .args .house .slots) (keysOf (start .args .house)) (start .args .i) (start .args .s) (start .pre .2)
+      (start .args .owed) (roomy .unfilled-of .result) (start .pre .5) (roomy .unfilled-of .ensures)
+
+unfilled-of-requires : tie.Need-unfilled-of-requires
+unfilled-of-requires c κs =
+    let start = c .before .before in
+    (start .pre .1, lent-keys _ _ _ (told-lent (start .args .house) (start .pre .0) (long start) (paired start)))
+
+sub-t21 : tie.Need-sub-t21
+sub-t21 c =
+    let begun = start c in
+    own-within (begun .args .house .slots) (keysOf (begun .args .house)) (begun .args .i) _ (begun .pre .2) _ _
+    (begun .pre .5) (c .unfilled-of .ensures) (omega (arith, begun .pre .4, begun .pre .1))
+
+settle-lent-requires : tie.Need-settle-lent-requires
+settle-lent-requires c κs =
+    let roomy = c .before .before .before .before .before .before .before .before .before in
+    let begun = start roomy in (
+      lent-to (begun .args .house) (begun .args .i) (begun .pre .2) (seen roomy) (begun .pre .0) (long begun)
+          (paired begun) (begun .pre .4) (begun .pre .1) (begun .pre .3) (cells begun),
+      begun .pre .6,
+    )
+
+returns : tie.Need-returns
+returns c =
+    let did = c .before .before .before .before .before .before in
+    let roomy = did .before .before .before .before .before .before .before .before .before .before in
+    let begun = start roomy in
+    c .answer-with .ensures
+    ∙ laid-back (begun .args .house) (begun .args .i) (begun .pre .2) (seen roomy) (begun .args .verdict) _ (did .settle-lent .ensures .0)
+
+-- ---- found by search
+
+slice-aggregate-settle-lent : tie.Need-slice-aggregate-settle-lent
+slice-aggregate-settle-lent c = search needs
+
+slice-aggregate-settle-lent-2 : tie.Need-slice-aggregate-settle-lent-2
+slice-aggregate-settle-lent-2 c = search needs
+
+slice-aggregate-settle-lent-3 : tie.Need-slice-aggregate-settle-lent-3
+slice-aggregate-settle-lent-3 c = search needs
+
+slice-aggregate-settle-lent-4 : tie.Need-slice-aggregate-settle-lent-4
+slice-aggregate-settle-lent-4 c = search needs
+
+mul-t20 : tie.Need-mul-t20
+mul-t20 c = search needs
+
+element-set-from-h : tie.Need-element-set-from-h
+element-set-from-h c = search needs
+
+answer-with-requires : tie.Need-answer-with-requires
+answer-with-requires c κs = search needs
+
+pub settle-rows-spec : {M : Type 1} → statement M
+settle-rows-spec =
+    tie.close
+    (tie.spec
+    unfilled-of-requires
+    sub-t21
+    slice-aggregate-settle-lent
+    slice-aggregate-settle-lent-2
+    slice-aggregate-settle-lent-3
+    slice-aggregate-settle-lent-4
+    settle-lent-requires
+    mul-t20
+    element-set-from-h
+    answer-with-requires
+    returns)
