@@ -10,20 +10,21 @@
 --   listing    a report by value
 -- Assumes nothing.
 use Prim.Native.Nat.{ℕ, zero, suc, _+_}
-use mathlib.Core.Bool.{cond, _&&_}
+use mathlib.Core.Bool.{cond}
 use mathlib.Core.List.{List, [], _∷_, _++_}
-use lib.Dec.{leb, ltb}
+use lib.Dec.{leb}
 use lib.ListN.{getD, set, replicate}
-use Rattle.prelude.specs.Checks.{Check, _else_, checked}
+use Rattle.prelude.specs.All.{all}
+use Rattle.prelude.specs.Checks.{Check, _else_, tests, checked}
 use Rattle.answers.specs.declared.Answer.{Answer}
 use Rattle.answers.specs.declared.Answer.the-variants.{Done, OutputTooShort}
-use Rattle.rows.specs.Rows.{slotCount, headOf, siteOf, binOf, heldBy, slotRank}
+use Rattle.rows.specs.Rows.{headOf, siteOf, binOf, heldBy, slotRank}
 use Rattle.house.specs.declared.House.{House}
 use Rattle.house.specs.declared.Row.{Row}
 use Rattle.house.specs.declared.Reported.{Reported}
 use Rattle.house.specs.declared.Listing.{Listing}
-use Rattle.house.specs.House.{rowCount, keysOf, sound}
-use Rattle.house.specs.Calls.{slotAt, slotChecks}
+use Rattle.house.specs.House.{rowCount, keysOf}
+use Rattle.house.specs.Calls.{slotChecks}
 
 abbrev pub keyedRow : ℕ → ℕ → Row
 keyedRow key count = record { head = headOf key; site = siteOf key; bin = binOf key; count = count }
@@ -34,7 +35,7 @@ rowAt h slot i =
     keyedRow (getD (h .keys) at 0) (getD (h .counts) at 0)
 
 unfoldable pub rowsOf : House → ℕ → ℕ
-rowsOf h slot = cond (sound h && (ltb slot slotCount && slotAt h slot .taken)) (heldBy slot (keysOf h)) 0
+rowsOf h slot = cond (all (tests (slotChecks h slot))) (heldBy slot (keysOf h)) 0
 
 -- a report of no rows has no place: it is not looked for in a house that may be out of order
 abbrev pub rowsFrom : House → ℕ → ℕ → ℕ

@@ -7,7 +7,9 @@ use mathlib.Core.List.{List, [], _∷_, _++_}
 use Rattle.prelude.specs.All.{all}
 use Rattle.prelude.specs.Choice.{_unless_then_}
 use Rattle.prelude.specs.Checks.{Check, tests, checked, numberBy, numbered}
+use Rattle.prelude.specs.Each.{each}
 use Rattle.prelude.proofs.All.{all-first}
+use Rattle.prelude.proofs.Both.{both-left, both-right}
 
 -- what holds of a refusal, and of what comes next where the test holds, holds of the choice
 pub choice-by : {A : Type 0} (P : A → Type 0) (a : A) (test : Bool) (b : A) → P a → (test ≡ true → P b)
@@ -22,13 +24,26 @@ check-first number a true b n rest is next = next refl
 check-first number a false b n rest is next = is
 
 module _ {A O : Type 0} (refuse : A → O) where
-  -- what holds of every refusal, and of what is done where all checks hold, holds of the call
+  -- what holds of every refusal that the checks may give, and of what is done where all hold, holds of the call
+  pub checked-where : (P : O → Type 0) (given : A → Bool) (cs : List (Check A)) (done : O)
+      → each (λ (c : Check A). given (c .answer)) cs ≡ true → ((a : A) → given a ≡ true → P (refuse a))
+      → (all (tests cs) ≡ true → P done) → P (checked refuse cs done)
+  checked-where P given [] done told refused next = next refl
+  checked-where P given (c ∷ cs) done told refused next =
+      let rest = each (λ (x : Check A). given (x .answer)) cs in
+      choice-by P (refuse (c .answer)) (c .holds) (checked refuse cs done)
+      (refused (c .answer) (both-left (given (c .answer)) rest told)) (λ e.
+      checked-where P given cs done (both-right (given (c .answer)) rest told) refused (λ es.
+      next (all-first (c .holds) (tests cs) e es)))
+
+  -- .. and so what holds of every refusal
   pub checked-by : (P : O → Type 0) (cs : List (Check A)) (done : O) → ((a : A) → P (refuse a))
       → (all (tests cs) ≡ true → P done) → P (checked refuse cs done)
-  checked-by P [] done refused next = next refl
-  checked-by P (c ∷ cs) done refused next =
-      choice-by P (refuse (c .answer)) (c .holds) (checked refuse cs done) (refused (c .answer)) (λ e.
-      checked-by P cs done refused (λ es. next (all-first (c .holds) (tests cs) e es)))
+  checked-by P cs done refused next = checked-where P (λ (a : A). true) cs done (any cs) (λ a told. refused a) next
+    where
+      any : (cs : List (Check A)) → each (λ (c : Check A). true) cs ≡ true
+      any [] = refl
+      any (c ∷ cs) = any cs
 
   -- its number is that of the first check that fails, and where all hold that of what is done
   module _ (of : A → ℕ) (number : O → ℕ) (is : (a : A) → number (refuse a) ≡ of a) where

@@ -1,7 +1,7 @@
 -- Laws of a session by itself: what soundness tells, as the functions' proofs and the judgement's laws cite it.
 -- Assumes nothing.
 use mathlib.Core.Path.{_≡_, refl}
-use mathlib.Core.Bool.{Bool, true, false, _&&_}
+use mathlib.Core.Bool.{true, false, _&&_}
 use mathlib.Core.List.{List}
 use Prim.Native.Nat.{ℕ, suc, _-_, _≤_, _<_}
 use native.Mathlib.Omega.{arith}
@@ -9,9 +9,7 @@ use borrow.Author.Tests.{le-leb, lt-leb, leb-true, eq-eqb, ne-eqb}
 use lib.Dec.{eqb, leb, ltb}
 use lib.ListN.{length, getD, take}
 use lib.Seq.{getD-take, length-take-le}
-use Rattle.prelude.specs.Choice.{_unless_then_}
 use Rattle.prelude.proofs.Both.{both-left, both-right}
-use Rattle.answers.specs.declared.Answer.{Answer}
 use Rattle.order.specs.declared.Place.{Place}
 use Rattle.order.specs.declared.Place.the-variants.{Start, Header, Lot, Setup, Body, Ended}
 use Rattle.order.specs.Laws.{before, ended}
@@ -19,8 +17,6 @@ use Rattle.rising.specs.Rising.{risingFrom, rising, allBelow}
 use Rattle.rising.proofs.Laws.{below-last}
 use Rattle.session.specs.declared.Session.{Session}
 use Rattle.session.specs.declared.Standing.{Standing}
-use Rattle.session.specs.declared.Verdict.{Verdict}
-use Rattle.session.specs.declared.Verdict.the-variants.{Refused}
 use Rattle.session.specs.Session.{mostOpen, pastParts, isStart, nothingYet, standsRight, partsRight, sound}
 use Rattle.session.specs.Laws.{BegunSound, SoundLent}
 
@@ -169,10 +165,3 @@ past-start Lot h = refl
 past-start Setup h = refl
 past-start Body h = refl
 past-start Ended h = refl
-
--- ---- a check that may refuse
-
-pub checked : (P : Verdict → Type 0) (a : Answer) (test : Bool) (v : Verdict)
-    → P (Refused a) → (test ≡ true → P v) → P (Refused a unless test then v)
-checked P a true v r n = n refl
-checked P a false v r n = r

@@ -1,15 +1,13 @@
 -- `reports::list_rows` meets its contract: after i turns the first i rows are laid.
 -- Assumes nothing.
-use mathlib.Core.Path.{_≡_, refl, sym, ap, _∙_}
+use mathlib.Core.Path.{_≡_}
 use Prim.Native.Nat.{ℕ, _+_, _-_, _≤_, _<_}
 use native.Mathlib.Omega.{arith}
 use native.Mathlib.Numerals.{add-one}
 use lib.ListN.{length, getD}
 use borrow.Author.Needs.{needs}
-use Rattle.house.specs.declared.House.{House}
-use Rattle.house.specs.declared.Reported.{Reported}
 use Rattle.house.specs.Deliver.{pastCounts}
-use Rattle.house.specs.Report.{keyedRow, rowAt, rowsOf, rowsFrom, reported, filled, noRows, listing}
+use Rattle.house.specs.Report.{keyedRow, rowAt, rowsOf, reported, filled, noRows, listing}
 use Rattle.house.proofs.Reporting.{few, rows-few, stands-within, stands-low, stands-told}
 use Rattle.reports.proofs.list_rows.Statement.{statement}
 use Rattle.reports.proofs.list_rows.Tie as tie
