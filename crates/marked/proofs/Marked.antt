@@ -10,7 +10,10 @@ use Rattle.rows.specs.Counts.{plus}
 use Rattle.rising.specs.Rising.{risingFrom, rising, rank, held, allBelow, insertAt, removeAt}
 use Rattle.session.specs.Session as session
 use Rattle.session.specs.Session.{partsRight}
-use Rattle.session.specs.Judge.{judgeIn, judgeFirst, judgePir, judgePrr, judgeLater, judge}
+use Rattle.settling.specs.Settling.{changed}
+use Rattle.first_record.specs.First.{judgeIn, judgeFirst}
+use Rattle.later_records.specs.Later.{judgePir, judgePrr, judgeLater}
+use Rattle.judging.specs.Judge.{judge}
 use Rattle.frames.specs.Frames.{isRecord}
 use Rattle.kinds.specs.Kinds.{named, hasType, beyondTable, kindOf}
 use Rattle.bodies.specs.Bodies.{readBody}
@@ -26,8 +29,8 @@ use Rattle.marked.specs.Marked.{table, Marked}
 pub marked-cases : Marked
 unfolding table sound rowsSound slotsSound slotSound promisedFrom unfilled granted rowTaken resultedIf settled
     delivered openSlot deliver rowAt reported heldBy sumBy rowRight rowsRight countedMore countedNew counted plus
-    risingFrom rising rank held allBelow insertAt removeAt session.sound partsRight judgeIn judgeFirst judgePir
-    judgePrr judgeLater judge isRecord named kindOf readBody softBinFits closeSlot slotDropped hasType beyondTable
+    risingFrom rising rank held allBelow insertAt removeAt session.sound partsRight changed judgeIn judgeFirst
+    judgePir judgePrr judgeLater judge isRecord named kindOf readBody softBinFits closeSlot slotDropped hasType beyondTable
     placedAt digits isDigit numeral allowed laid ending tagOf sitesFit contentMeans split pieceFits entryIn fieldsFit
     entriesIn
 marked-cases = refl
