@@ -38,19 +38,19 @@ pub fn open_slot(house: House, slot: u32, floor: u32) -> Answered
     if !told.sound {
         return answer_with(Answer::NotSound, house);
     }
-    if 16 <= slot {
+    let i = slot as usize;
+    if House::SLOTS <= i {
         return answer_with(Answer::NoSuchSlot, house);
     }
-    if 1024 < floor {
+    if House::ROWS < floor as usize {
         return answer_with(Answer::FloorTooHigh, house);
     }
     let mut h = house;
-    let i = slot as usize;
     let s = h.slots[i];
     if s.taken {
         return answer_with(Answer::SlotTaken, h);
     }
-    let free = 1024 - h.used as u32;
+    let free = (House::ROWS - h.used) as u32;
     if free - told.promised < floor {
         return answer_with(Answer::NoRoom, h);
     }
@@ -64,7 +64,7 @@ pub fn figures(house: House) -> Figures
 {
     let told = soundness_of(house);
     if told.sound {
-        let free = 1024 - house.used as u32;
+        let free = (House::ROWS - house.used) as u32;
         return Figures {
             answer: Answer::Done,
             free,
@@ -85,11 +85,11 @@ pub fn close_slot(house: House, slot: u32) -> Answered
     if !is_sound(house) {
         return answer_with(Answer::NotSound, house);
     }
-    if 16 <= slot {
+    let i = slot as usize;
+    if House::SLOTS <= i {
         return answer_with(Answer::NoSuchSlot, house);
     }
     let mut h = house;
-    let i = slot as usize;
     let s = h.slots[i];
     if !s.taken {
         return answer_with(Answer::SlotClosed, h);
@@ -114,10 +114,10 @@ pub fn deliver(house: House, slot: u32, rec: &[u8]) -> Answered
     if !told.sound {
         return answer_with(Answer::NotSound, h);
     }
-    if 16 <= slot {
+    let i = slot as usize;
+    if House::SLOTS <= i {
         return answer_with(Answer::NoSuchSlot, h);
     }
-    let i = slot as usize;
     let s = h.slots[i];
     if !s.taken {
         return answer_with(Answer::SlotClosed, h);
