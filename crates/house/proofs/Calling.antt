@@ -47,7 +47,7 @@ module _ (h : House) (e : sound h ≡ true) where
   -- each of the conditions
   told-at : (i : ℕ) → getD (conditions h) i true ≡ true
   unfolding sound
-  told-at i = all-at (conditions h) i e
+  told-at = all-at (conditions h) e
 
   pub told-within : h .used ≤ rowCount
   told-within = leb-true (h .used) rowCount (told-at 0)
@@ -77,8 +77,7 @@ pub open-told : (i : ℕ) (s : Slot) (keys counts : List ℕ) → s .taken ≡ t
 unfolding slotSound
 open-told i s keys counts t e =
     let all : all (openConditions i s keys counts) ≡ true = rw t at e in
-    let at : (n : ℕ) → getD (openConditions i s keys counts) n true ≡ true =
-    λ n. all-at (openConditions i s keys counts) n all in
+    let at = all-at (openConditions i s keys counts) all in
     record {
       floor = leb-true (s .floor) rowCount (at 0);
       session = at 1;
@@ -166,8 +165,7 @@ pub record CanOpen (h : House) (slot floor : ℕ) : Type 0 where
 
 pub can-open : (h : House) (slot floor : ℕ) → all (tests (openChecks h slot floor)) ≡ true → CanOpen h slot floor
 can-open h slot floor e =
-    let at : (n : ℕ) → getD (tests (openChecks h slot floor)) n true ≡ true =
-    λ n. all-at (tests (openChecks h slot floor)) n e in
+    let at = all-at (tests (openChecks h slot floor)) e in
     record {
       fine = at 0;
       inside = ltb-true slot slotCount (at 1);
@@ -183,7 +181,7 @@ pub record IsOpen (h : House) (slot : ℕ) : Type 0 where
 
 pub is-open : (h : House) (slot : ℕ) → all (tests (slotChecks h slot)) ≡ true → IsOpen h slot
 is-open h slot e =
-    let at : (n : ℕ) → getD (tests (slotChecks h slot)) n true ≡ true = λ n. all-at (tests (slotChecks h slot)) n e in
+    let at = all-at (tests (slotChecks h slot)) e in
     record { fine = at 0; inside = ltb-true slot slotCount (at 1); opened = at 2 }
 
 -- ---- figures

@@ -172,8 +172,7 @@ few h slot long =
     let held = heldBy slot (keysOf h) in
     checked-by unreported (λ (r : Reported). (r .rows ≤ rowsOf h slot) × (r .rows ≤ long)) (reportChecks h slot long)
     (record { answer = Done; rows = held }) (λ a. (omega arith, omega arith)) (λ e.
-    let at : (n : ℕ) → getD (tests (reportChecks h slot long)) n true ≡ true =
-    λ n. all-at (tests (reportChecks h slot long)) n e in
+    let at = all-at (tests (reportChecks h slot long)) e in
     let all : rowsOf h slot ≡ held = rw (at 0, at 1, at 2) in
     (omega (arith, all), leb-true held long (at 3)))
 

@@ -1,6 +1,8 @@
 -- The calls. Document 01, "The house, its slots and its rows", Calls, and "Refusal numbers", Order of checks.
 --
---   openSlot, deliver, closeSlot, figuresOf   what each call answers, and the house after it
+--   openSlot, deliver, closeSlot, figuresOf   what each call answers, and the house after it: its checks, in their order,
+--                                             and what it does where all hold
+--   openChecks, slotChecks                    the checks of Open, and of every call that asks for an open slot
 -- Assumes nothing.
 use Prim.Native.Nat.{ℕ, _-_}
 use mathlib.Core.Bool.{not}

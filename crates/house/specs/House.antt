@@ -3,7 +3,8 @@
 --   closedSlot, openedSlot, fresh   a slot that holds nothing, one just opened, a house of the first alone
 --   keysOf, countsOf                the rows in use
 --   free, promised                  how many rows no session holds, and how many are still owed
---   sound, soundness                document 01's conditions on a sound house, and what a test of them tells
+--   conditions, sound, soundness    document 01's conditions on a sound house, whether all hold, and what a test of
+--                                   them tells
 -- Assumes nothing.
 use Prim.Native.Nat.{ℕ, suc, _+_, _-_, _≤_}
 use mathlib.Core.Path.{_≡_}
@@ -76,8 +77,8 @@ takenOf slots = map (λ (s : Slot). s .taken) slots
 unfoldable pub rowsSound : List Bool → List ℕ → List ℕ → Bool
 rowsSound taken keys counts = rising keys && rowsRight taken keys counts
 
--- an open slot: its floor at most 1,024, its session sound, its counts the sum of its accepted PRRs, at most
--- 4,294,967,295; a closed slot holds nothing
+-- an open slot: its floor at most 1,024, its session sound, its accepted PRRs at most 4,294,967,295 and the sum of its
+-- counts
 abbrev pub openConditions : ℕ → Slot → List ℕ → List ℕ → List Bool
 openConditions i s keys counts =
     leb (s .floor) rowCount
@@ -86,6 +87,7 @@ openConditions i s keys counts =
     ∷ eqb (sumBy i keys counts) (s .session .standing .results)
     ∷ []
 
+-- a closed slot holds nothing
 abbrev pub closedConditions : Slot → List Bool
 closedConditions s = eqb (s .floor) 0 ∷ nothingYet (s .session .standing) ∷ []
 

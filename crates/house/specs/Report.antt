@@ -4,7 +4,7 @@
 --   rowAt      the i-th row of a slot
 --   rowsOf     how many rows a report of a slot has; none where there is nothing to report
 --   rowsFrom   where the rows of a report stand among all rows
---   reported   what the call answers, and how many rows it writes into a slice that is so long
+--   reported   what the call answers, by reportChecks, and how many rows it writes into a slice that is so long
 --   listed     the first rows of a report, one after the other
 --   filled     a slice whose first rows are written, every other as it was
 --   listing    a report by value

@@ -7,13 +7,12 @@ use Prim.Native.Nat.{zero, suc}
 use Rattle.prelude.specs.All.{all, AllAt}
 
 pub all-at : AllAt
-all-at [] i e = refl
-all-at (t ∷ []) zero e = e
-all-at (t ∷ []) (suc i) e = refl
-all-at (true ∷ u ∷ ts) zero e = refl
-all-at (false ∷ u ∷ ts) zero e = e
-all-at (true ∷ u ∷ ts) (suc i) e = all-at (u ∷ ts) i e
-all-at (false ∷ u ∷ ts) (suc i) e = absurd (false≢true e)
+all-at [] e i = refl
+all-at (t ∷ []) e zero = e
+all-at (t ∷ []) e (suc i) = refl
+all-at (true ∷ u ∷ ts) e zero = refl
+all-at (true ∷ u ∷ ts) e (suc i) = all-at (u ∷ ts) e i
+all-at (false ∷ u ∷ ts) e i = absurd (false≢true e)
 
 -- one test more, before others that all hold
 pub all-first : (t : Bool) (ts : List Bool) → t ≡ true → all ts ≡ true → all (t ∷ ts) ≡ true

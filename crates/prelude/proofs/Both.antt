@@ -5,7 +5,7 @@ use Rattle.prelude.specs.Both.{BothLeft, BothRight}
 use Rattle.prelude.proofs.All.{all-at}
 
 pub both-left : BothLeft
-both-left a b = all-at (a ∷ b ∷ []) 0
+both-left a b e = all-at (a ∷ b ∷ []) e 0
 
 pub both-right : BothRight
-both-right a b = all-at (a ∷ b ∷ []) 1
+both-right a b e = all-at (a ∷ b ∷ []) e 1

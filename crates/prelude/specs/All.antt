@@ -17,4 +17,4 @@ all (t ∷ u ∷ ts) = t && all (u ∷ ts)
 
 -- past the last there is none, and nothing to hold
 abbrev pub AllAt : Type 0
-AllAt = (tests : List Bool) (i : ℕ) → all tests ≡ true → getD tests i true ≡ true
+AllAt = (tests : List Bool) → all tests ≡ true → (i : ℕ) → getD tests i true ≡ true
