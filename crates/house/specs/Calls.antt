@@ -1,18 +1,21 @@
 -- The calls. Document 01, "The house, its slots and its rows", Calls, and "Refusal numbers", Order of checks.
 --
 --   openSlot, deliver, closeSlot, figuresOf   what each call answers, and the house after it
+--   settledTo                                 what a verdict on a record to a slot does; Settling, what is asked for it
 -- Assumes nothing.
-use Prim.Native.Nat.{ℕ, _-_}
-use mathlib.Core.Bool.{not}
+use Prim.Native.Nat.{ℕ, _-_, _<_}
+use mathlib.Core.Path.{_≡_}
+use mathlib.Core.Bool.{true, not}
 use mathlib.Core.List.{List}
 use lib.Dec.{leb, ltb}
-use lib.ListN.{getD, set}
+use lib.ListN.{length, getD, set}
 use Rattle.prelude.specs.Choice.{_unless_then_}
 use Rattle.answers.specs.declared.Answer.{Answer}
 use Rattle.answers.specs.declared.Answer.the-variants.{Done, NoSuchSlot, SlotTaken, SlotClosed, NoRoom, NotSound}
 use Rattle.answers.specs.declared.Answer.the-variants.{FloorTooHigh}
 use Rattle.rows.specs.Rows.{slotCount, slotDropped}
 use Rattle.session.specs.declared.Verdict.{Verdict}
+use Rattle.settling.specs.Settling.{Settles}
 use Rattle.house.specs.declared.Slot.{Slot}
 use Rattle.house.specs.declared.House.{House}
 use Rattle.house.specs.declared.Room.{Room}
@@ -101,6 +104,16 @@ withOutcome h slot o =
             session = record { standing = o .core .standing; parts = o .core .parts };
           });
     })
+
+-- what is known of a house and of an open slot of it when a verdict on a record to it is settled
+pub record Settling (h : House) (owed slot : ℕ) (s : Slot) (v : Verdict) : Type 0 where
+  pub sound : sound h ≡ true
+  pub inside : slot < slotCount
+  pub is : s ≡ slotAt h slot
+  pub taken : s .taken ≡ true
+  pub slots : length (h .slots) ≡ slotCount
+  pub owes : owed ≡ promised h
+  pub fits : Settles (s .session .standing .opened) v
 
 -- Order of checks, Deliver: 15, 1, 2, then the record
 unfoldable pub deliver : House → ℕ → List ℕ → Answered

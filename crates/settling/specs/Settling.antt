@@ -10,9 +10,8 @@ use Prim.Native.Nat.{ℕ, _+_, _≤_, _<_}
 use Rattle.rising.specs.Rising.{insertAt, removeAt}
 use Rattle.session.specs.declared.Session.{Session}
 use Rattle.session.specs.declared.Standing.{Standing}
-use Rattle.session.specs.declared.PartChange.{PartChange}
-use Rattle.session.specs.declared.PartChange.the-variants.{Same, Opens, Closes}
 use Rattle.session.specs.declared.Change.{Change}
+use Rattle.session.specs.declared.Change.the-variants.{Stands, Opens, Closes}
 use Rattle.session.specs.declared.Verdict.{Verdict}
 use Rattle.session.specs.declared.Verdict.the-variants.{Refused, Taken, Wanted}
 use Rattle.session.specs.Session.{mostOpen}
@@ -21,18 +20,12 @@ use Rattle.session.specs.Session.{mostOpen}
 abbrev pub lentSession : Standing → List ℕ → Session
 lentSession st cells = record { standing = st; parts = cells }
 
--- the cells of the parts, of which so many were open: PIR puts a part in at its rank, PRR takes it out
-abbrev pub partsAfter : List ℕ → ℕ → PartChange → List ℕ
-partsAfter cells opened Same = cells
-partsAfter cells opened (Opens rank part) = insertAt cells opened rank part
-partsAfter cells opened (Closes rank) = removeAt cells opened rank 1
-
+-- PIR puts a part in at its rank among the open ones, PRR takes it out
 unfoldable pub changed : Session → Change → Session
-changed s change =
-    record {
-      standing = change .standing;
-      parts = partsAfter (s .parts) (s .standing .opened) (change .parts);
-    }
+changed s (Stands st) = record { standing = st; parts = s .parts }
+changed s (Opens st rank part) =
+    record { standing = st; parts = insertAt (s .parts) (s .standing .opened) rank part }
+changed s (Closes st rank) = record { standing = st; parts = removeAt (s .parts) (s .standing .opened) rank 1 }
 
 -- a refusal changes nothing
 unfoldable pub after : Session → Verdict → Session
@@ -48,13 +41,10 @@ counts (Wanted change key) = 1
 
 -- ---- what may be settled
 
-abbrev pub PartWithin : ℕ → PartChange → Type 0
-PartWithin opened Same = Unit
-PartWithin opened (Opens rank part) = (rank ≤ opened) × (opened < mostOpen)
-PartWithin opened (Closes rank) = rank + 1 ≤ opened
-
 abbrev pub Within : ℕ → Change → Type 0
-Within opened change = PartWithin opened (change .parts)
+Within opened (Stands st) = Unit
+Within opened (Opens st rank part) = (rank ≤ opened) × (opened < mostOpen)
+Within opened (Closes st rank) = rank + 1 ≤ opened
 
 abbrev pub Settles : ℕ → Verdict → Type 0
 Settles opened (Refused a) = Unit
