@@ -26,7 +26,7 @@ ghost use Rattle.session.specs.Session.{sound};
 ghost use Rattle.settling.specs.Settling.{Settles};
 ghost use Rattle.judging.specs.Judge.{verdictOn};
 ghost use Rattle.house.specs.Calls.{openSlot, closeSlot, deliver, figuresOf};
-ghost use Rattle.house.specs.Calls.{answered, settledTo, withOutcome, Settling};
+ghost use Rattle.house.specs.Calls.{answered, settledTo, withOutcome, Settleable};
 
 fn answer_with(answer: Answer, house: House) -> Answered
     ensures { λ r. ⌜ r ≡ answered answer house ⌝ }
@@ -143,7 +143,7 @@ fn judge_slot(s: Slot, rec: &[u8]) -> Verdict
 // Settles a verdict on a record to an open slot of a sound house, of which the test has told how many rows it owes. One
 // that asks for no row is settled in the slot, and no row is touched.
 fn settle_to(house: House, owed: u32, i: usize, s: Slot, verdict: Verdict) -> Answered
-    requires { ⌜ Settling house owed i s verdict ⌝ }
+    requires { ⌜ Settleable house owed i s verdict ⌝ }
     ensures { λ r. ⌜ r ≡ withOutcome house i (settledTo house i verdict) ⌝ }
 {
     match verdict {
@@ -165,7 +165,7 @@ fn settle_to(house: House, owed: u32, i: usize, s: Slot, verdict: Verdict) -> An
 // .. and one that asks for a row: the rows and the parts are lent, and the house is laid anew from them, so that each
 // array is copied once. One call has nothing to guess by.
 fn settle_rows(house: House, owed: u32, i: usize, s: Slot, verdict: Verdict) -> Answered
-    requires { ⌜ Settling house owed i s verdict ⌝ }
+    requires { ⌜ Settleable house owed i s verdict ⌝ }
     ensures { λ r. ⌜ r ≡ withOutcome house i (settledTo house i verdict) ⌝ }
 {
     let used = house.used;

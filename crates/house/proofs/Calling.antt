@@ -34,8 +34,8 @@ use Rattle.house.specs.House.{rowCount, noSlot, closedSlot, openedSlot, 
 use Rattle.house.specs.House.{promisedFrom}
 use Rattle.house.specs.House.{promised, takenOf, rowsSound, slotSound, slotsSound, sound, Lent}
 use Rattle.house.specs.Deliver.{Outcome, core, settled, pastCounts, LentCore}
-use Rattle.house.specs.Calls.{slotAt, withSlot, answered, openSlot, closeSlot, roomIn, roomOf, coreOf, deliveredTo}
-use Rattle.house.specs.Calls.{settledTo, withOutcome, deliver, figuresOf}
+use Rattle.house.specs.Calls.{slotAt, withSlot, answered, openSlot, closeSlot, roomIn, roomOf, coreOf}
+use Rattle.house.specs.Calls.{deliveredTo, settledTo, withOutcome, deliver, figuresOf}
 use Rattle.house.proofs.Laws.{lent-of}
 use Rattle.house.proofs.Delivering.{settled-refused, settled-taken, delivered-settled}
 

@@ -1,7 +1,8 @@
 -- The calls. Document 01, "The house, its slots and its rows", Calls, and "Refusal numbers", Order of checks.
 --
 --   openSlot, deliver, closeSlot, figuresOf   what each call answers, and the house after it
---   settledTo                                 what a verdict on a record to a slot does; Settling, what is asked for it
+--   settledTo                                 what a verdict on a record to a slot does
+--   Settleable                                what is known where it is settled
 -- Assumes nothing.
 use Prim.Native.Nat.{ℕ, _-_, _<_}
 use mathlib.Core.Path.{_≡_}
@@ -106,7 +107,7 @@ withOutcome h slot o =
     })
 
 -- what is known of a house and of an open slot of it when a verdict on a record to it is settled
-pub record Settling (h : House) (owed slot : ℕ) (s : Slot) (v : Verdict) : Type 0 where
+pub record Settleable (h : House) (owed slot : ℕ) (s : Slot) (v : Verdict) : Type 0 where
   pub sound : sound h ≡ true
   pub inside : slot < slotCount
   pub is : s ≡ slotAt h slot

@@ -1,5 +1,6 @@
 // A session: document 01, "The house, its slots and its rows", an open slot without its rows; and what a record may do
-// to one, as a verdict says it. Nothing here knows of a house: whether there is room (13) is judged elsewhere, and last.
+// to one, as a verdict says it. Nothing here knows of a house: whether there is room (13) is judged elsewhere, and
+// last.
 mod sound;
 
 use answers::Answer;
@@ -28,9 +29,9 @@ pub struct Session {
     pub parts: [u64; 32],
 }
 
-// What an accepted record makes of a session: its standing after it, and what becomes of its open parts. Those that judge
-// and settle alone look into it: a house hands it back to be settled, so that a kind with an effect of its own is no
-// business of a house.
+// What an accepted record makes of a session: its standing after it, and what becomes of its open parts. Those that
+// judge and settle alone look into it: a house hands it back to be settled, so that a kind with an effect of its own is
+// no business of a house.
 pub enum Change {
     // The parts stay.
     Stands(Standing),

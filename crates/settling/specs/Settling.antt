@@ -1,9 +1,9 @@
 -- The session after a record. Document 01, Calls, Deliver, as one session sees it.
 --
---   changed   the session after a change: here alone stands what a change does
---   after     the session after a verdict; of a part result, if its row is granted
---   counts    how many part results a verdict counts, if its row is granted
---   Within    that a part opens and closes among the open ones; Settles, that a verdict's change, if any, is such
+--   changed        the session after a change: here alone stands what a change does
+--   after          the session after a verdict; of a part result, if its row is granted
+--   countedParts   how many parts a verdict counts, if its row is granted
+--   Within         that a part opens and closes among the open ones; Settles, that a verdict's change, if any, is such
 -- Assumes nothing.
 use mathlib.Core.List.{List}
 use Prim.Native.Nat.{ℕ, _+_, _≤_, _<_}
@@ -34,10 +34,10 @@ after s (Taken change) = changed s change
 after s (Wanted change key) = changed s change
 
 -- every accepted PRR counts as one part
-abbrev pub counts : Verdict → ℕ
-counts (Refused a) = 0
-counts (Taken change) = 0
-counts (Wanted change key) = 1
+abbrev pub countedParts : Verdict → ℕ
+countedParts (Refused a) = 0
+countedParts (Taken change) = 0
+countedParts (Wanted change key) = 1
 
 -- ---- what may be settled
 

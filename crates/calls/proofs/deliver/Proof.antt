@@ -46,8 +46,8 @@ judge-slot-requires : tie.Need-judge-slot-requires
 judge-slot-requires c κs =
     let inside = c .before .before .before in
     let fine = inside .before in
-    open-session (start fine .args .house) (start fine .args .slot) (sounded fine) (test fine .soundness-lent .ensures .1)
-    (inside .if2 .left) (not-false _ (c .if3 .left))
+    open-session (start fine .args .house) (start fine .args .slot) (sounded fine)
+    (test fine .soundness-lent .ensures .1) (inside .if2 .left) (not-false _ (c .if3 .left))
 
 settle-to-requires : tie.Need-settle-to-requires
 settle-to-requires c κs =

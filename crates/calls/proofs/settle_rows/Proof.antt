@@ -34,13 +34,14 @@ module _ (roomy : tie.After-unfilled-of) where
   }
       ≡ roomOf (start .args .house) (start .args .i)
   seen =
-      room-is (start .args .house .slots) (keysOf (start .args .house)) (start .args .i) (start .args .s) (start .pre .is)
-      (start .args .owed) (roomy .unfilled-of .result) (start .pre .owes) (roomy .unfilled-of .ensures)
+      room-is (start .args .house .slots) (keysOf (start .args .house)) (start .args .i) (start .args .s)
+      (start .pre .is) (start .args .owed) (roomy .unfilled-of .result) (start .pre .owes) (roomy .unfilled-of .ensures)
 
 unfilled-of-requires : tie.Need-unfilled-of-requires
 unfilled-of-requires c κs =
     let start = c .before .before .before in
-    (start .pre .inside, lent-keys _ _ _ (told-lent (start .args .house) (start .pre .sound) (long start) (paired start)))
+    let lent = told-lent (start .args .house) (start .pre .sound) (long start) (paired start) in
+    (start .pre .inside, lent-keys _ _ _ lent)
 
 sub-t22 : tie.Need-sub-t22
 sub-t22 c =

@@ -34,8 +34,8 @@ returns-2 : tie.Need-returns-2
 returns-2 c =
     let start = c .before .before .before .before .before in
     c .answer-with2 .ensures
-    ∙ laid-taken (start .args .house) (start .args .i) (start .pre .is) (c .before .before .before .verdict2 .given .1) _
-    (c .before .settle .ensures)
+    ∙ laid-taken (start .args .house) (start .args .i) (start .pre .is)
+    (c .before .before .before .verdict2 .given .1) _ (c .before .settle .ensures)
 
 -- ---- found by search
 
