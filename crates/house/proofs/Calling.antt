@@ -36,8 +36,8 @@ use Rattle.house.specs.House.{rowCount, noSlot, closedSlot, openedSlot, 
 use Rattle.house.specs.House.{promisedFrom, promised, takenOf, rowsSound, openConditions, slotSound, slotsSound}
 use Rattle.house.specs.House.{conditions, sound, Lent}
 use Rattle.house.specs.Deliver.{Outcome, core, settled, pastCounts, LentCore}
-use Rattle.house.specs.Calls.{slotAt, withSlot, answered, openSlot, closeSlot, roomIn, roomOf, coreOf, deliveredTo}
-use Rattle.house.specs.Calls.{settledTo, withOutcome, deliver, figuresOf, openChecks, slotChecks}
+use Rattle.house.specs.Calls.{slotAt, withSlot, answered, openChecks, openSlot, slotChecks, closeSlot, roomIn}
+use Rattle.house.specs.Calls.{roomOf, coreOf, deliveredTo, settledTo, withOutcome, deliver, figuresOf}
 use Rattle.house.proofs.Laws.{lent-of}
 use Rattle.house.proofs.Delivering.{settled-refused, settled-taken, delivered-settled}
 
@@ -373,25 +373,23 @@ same-slot h slot =
     ap (λ (slots : List Slot). record { keys = h .keys; counts = h .counts; used = h .used; slots = slots })
     (set-getD (h .slots) slot noSlot)
 
--- what a verdict on a record to an open slot makes of the house
-module _ (h : House) (slot : ℕ) (rec : List ℕ) {s : Slot} (is : s ≡ slotAt h slot) {v : Verdict}
-    (said : v ≡ verdictOn (s .session) rec) where
-  pub laid-settled : withOutcome h slot (settledTo h slot v) ≡ withOutcome h slot (deliveredTo h slot rec)
-  laid-settled =
-      let judged : v ≡ verdictOn (slotAt h slot .session) rec = rw (← is) said in
-      ap (withOutcome h slot) (delivered-settled (roomOf h slot) (coreOf h slot) rec judged)
-
-  pub laid-refused : {a : Answer} → v ≡ Refused a → answered a h ≡ withOutcome h slot (deliveredTo h slot rec)
+-- what a verdict that asks for no row makes of the house
+module _ (h : House) (slot : ℕ) {v : Verdict} where
+  pub laid-refused : {a : Answer} → v ≡ Refused a → answered a h ≡ withOutcome h slot (settledTo h slot v)
   laid-refused {a} e =
       ap (answered a) (sym (same-slot h slot))
       ∙ ap (withOutcome h slot) (settled-refused (roomOf h slot) (coreOf h slot) e)
-      ∙ laid-settled
 
-  pub laid-taken : {change : Change} → v ≡ Taken change → (next : Session) → next ≡ changed (s .session) change
+  pub laid-taken : {s : Slot} → s ≡ slotAt h slot → {change : Change} → v ≡ Taken change → (next : Session)
+      → next ≡ changed (s .session) change
       → answered answer.Done (withSlot h slot (record { taken = s .taken; floor = s .floor; session = next }))
-      ≡ withOutcome h slot (deliveredTo h slot rec)
-  laid-taken {change} e next then =
+      ≡ withOutcome h slot (settledTo h slot v)
+  laid-taken is {change} e next then =
       let after : next ≡ changed (slotAt h slot .session) change = rw (← is) then in
-      rw is
-      (ap (withOutcome h slot) (settled-taken (roomOf h slot) (coreOf h slot) e next after)
-      ∙ laid-settled)
+      rw is (ap (withOutcome h slot) (settled-taken (roomOf h slot) (coreOf h slot) e next after))
+
+-- .. and a record that was judged, whose verdict is settled
+pub laid-judged : (h : House) (slot : ℕ) (rec : List ℕ) {v : Verdict} → v ≡ verdictOn (slotAt h slot .session) rec
+    → withOutcome h slot (settledTo h slot v) ≡ withOutcome h slot (deliveredTo h slot rec)
+laid-judged h slot rec said =
+    ap (withOutcome h slot) (delivered-settled (roomOf h slot) (coreOf h slot) rec said)

@@ -29,8 +29,7 @@ use Rattle.session.specs.declared.Verdict.the-variants.{Refused, Taken, Wanted}
 use Rattle.session.specs.Session as session
 use Rattle.session.specs.Session.{mostOpen, mostResults, pastParts}
 use Rattle.session.proofs.Laws.{begun-sound}
-use Rattle.settling.specs.Settling as verdict
-use Rattle.settling.specs.Settling.{changed, after}
+use Rattle.settling.specs.Settling.{changed, after, countedParts}
 use Rattle.judging.specs.Judge.{verdictOn}
 use Rattle.judging.specs.Laws.{KeyRight}
 use Rattle.judging.proofs.Laws.{judged-sound, judged-counts, judged-few, judged-key, judged-long}
@@ -489,7 +488,7 @@ module _ (h : House) (slot : ℕ) (shape : Shaped h) (e : sound h ≡ true) (ins
   ses = s .session
 
   settled-sound : (v : Verdict) → session.sound (after ses v) ≡ true
-      → after ses v .standing .results ≡ ses .standing .results + verdict.counts v
+      → after ses v .standing .results ≡ ses .standing .results + countedParts v
       → after ses v .standing .results ≤ mostResults → KeyRight v
       → sound (withOutcome h slot (settledTo h slot v) .house) ≡ true
   unfolding settled after

@@ -1,20 +1,24 @@
 -- The calls. Document 01, "The house, its slots and its rows", Calls, and "Refusal numbers", Order of checks.
 --
---   openSlot, deliver, closeSlot, figuresOf   what each call answers, and the house after it: its checks, in their order,
+--   openSlot, deliver, closeSlot, figuresOf   what each call answers, and the house after it: its checks in their order,
 --                                             and what it does where all hold
 --   openChecks, slotChecks                    the checks of Open, and of every call that asks for an open slot
+--   settledTo                                 what a verdict on a record to a slot does
+--   Settleable                                what is known where it is settled
 -- Assumes nothing.
-use Prim.Native.Nat.{ℕ, _-_}
-use mathlib.Core.Bool.{not}
+use Prim.Native.Nat.{ℕ, _-_, _<_}
+use mathlib.Core.Path.{_≡_}
+use mathlib.Core.Bool.{true, not}
 use mathlib.Core.List.{List, [], _∷_}
 use lib.Dec.{leb, ltb}
-use lib.ListN.{getD, set}
+use lib.ListN.{length, getD, set}
 use Rattle.prelude.specs.Checks.{Check, _else_, checked}
 use Rattle.answers.specs.declared.Answer.{Answer}
 use Rattle.answers.specs.declared.Answer.the-variants.{Done, NoSuchSlot, SlotTaken, SlotClosed, NoRoom, NotSound}
 use Rattle.answers.specs.declared.Answer.the-variants.{FloorTooHigh}
 use Rattle.rows.specs.Rows.{slotCount, slotDropped}
 use Rattle.session.specs.declared.Verdict.{Verdict}
+use Rattle.settling.specs.Settling.{Settles}
 use Rattle.house.specs.declared.Slot.{Slot}
 use Rattle.house.specs.declared.House.{House}
 use Rattle.house.specs.declared.Room.{Room}
@@ -63,7 +67,7 @@ closed h slot =
       slots = set (h .slots) slot closedSlot;
     }
 
--- Order of checks, Close and, before the record is judged, Deliver: 15, 1, 2
+-- Order of checks: 15, 1, 2. Close has these alone, Deliver before the record is judged, Report before its room is
 abbrev pub slotChecks : House → ℕ → List (Check Answer)
 slotChecks h slot =
     (sound h else NotSound)
@@ -114,6 +118,16 @@ withOutcome h slot o =
             session = record { standing = o .core .standing; parts = o .core .parts };
           });
     })
+
+-- what is known of a house and of an open slot of it when a verdict on a record to it is settled
+pub record Settleable (h : House) (owed slot : ℕ) (s : Slot) (v : Verdict) : Type 0 where
+  pub sound : sound h ≡ true
+  pub inside : slot < slotCount
+  pub is : s ≡ slotAt h slot
+  pub taken : s .taken ≡ true
+  pub slots : length (h .slots) ≡ slotCount
+  pub owes : owed ≡ promised h
+  pub fits : Settles (s .session .standing .opened) v
 
 -- Order of checks, Deliver: 15, 1, 2, then the record
 unfoldable pub deliver : House → ℕ → List ℕ → Answered

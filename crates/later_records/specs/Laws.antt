@@ -1,4 +1,4 @@
--- What is shown of a later record: statements only. Each is proved in proofs/Checks.antt under its name in small letters.
+-- What is shown of a later record: statements only, each proved in proofs/Checks.antt under its name in small letters.
 -- Assumes nothing.
 use mathlib.Core.Path.{_≡_}
 use mathlib.Core.Bool.{true, not, _&&_}

@@ -67,8 +67,8 @@ fn rank_in(guess: u16) -> usize
     guess as usize
 }
 
-// The rank of a key, looked for first where its guess says; a guess that was right is not written again. Fewer guesses, or
-// none, will do: then there is a search.
+// The rank of a key, looked for first where its guess says; a guess that was right is not written again. Fewer guesses,
+// or none, will do: then there is a search.
 fn find_row(keys: &[u64], used: usize, guesses: &mut [u16], cell: usize, key: u64) -> usize
     requires { ⌜ LentKeys (now keys) used ⌝ }
     ensures { λ r. ⌜ (r ≡ rank key (take used (now (keys .entry))))
