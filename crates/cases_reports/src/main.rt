@@ -1,6 +1,6 @@
-// Reports into a lent slice, as a transcript: document 01, Calls, Report, "fills a lent slice of row records". The slice
-// has two rows, each 9/9/9=9 before the call. A line has the slot that is asked for, the answer, how many rows were
-// written, and both rows of the slice afterwards: head, site, bin and count. Held to the file stdout.
+// Reports into a lent slice, as a transcript: document 01, Calls, Report, "fills a lent slice of row records". The
+// slice has two rows, each 9/9/9=9 before the call. A line has the case, the answer, how many rows were written, and
+// both rows of the slice afterwards: head, site, bin and count. Held to the file stdout.
 use fixtures::standing;
 use house::House;
 use house::Reported;
@@ -48,8 +48,8 @@ fn open(results: u32) -> Slot {
     }
 }
 
-// Slot 0 holds three rows, slot 1 two, slot 2 one and slot 3 none; all others are closed. Key 16842757 is slot 0, head 1,
-// site 1 and bin 5; each slot further is 4294967296 more.
+// Slot 0 holds three rows, slot 1 two, slot 2 one and slot 3 none; all others are closed. Key 16842757 is slot 0, head
+// 1, site 1 and bin 5; each slot further is 4294967296 more.
 fn house_of(used: usize) -> House {
     let mut h = House::fresh();
     h.keys[0] = 5;

@@ -142,7 +142,8 @@ unfolding slotSound
 slots-one keys counts ks cs slots i s inside same e right =
     let one = rw (zero-add i) at
     (over-one _&&_ true swap (λ (j : ℕ) (x : Slot). slotSound j x keys counts)
-    (λ (j : ℕ) (x : Slot). slotSound j x ks cs) 0 slots i s inside (λ j x ne. rw (same j (λ q. ne (omega (arith, q)))))) in
+    (λ (j : ℕ) (x : Slot). slotSound j x ks cs) 0 slots i s inside
+    (λ j x ne. rw (same j (λ q. ne (omega (arith, q)))))) in
     let rest = both-right (slotSound i (getD slots i noSlot) keys counts) (one .rest)
     (sym (one .was) ∙ sym (slots-over keys counts 0 slots) ∙ e) in
     slots-over ks cs 0 (set slots i s) ∙ one .is ∙ rw (right, rest)
@@ -321,8 +322,8 @@ module _ (h : House) (slot : ℕ) (shape : Shaped h) (e : sound h ≡ true) (ins
       } in
       sound-by (withSlot h slot next) (told-within h e) (told-rises h e)
       (rw (map-set-same (λ (s : Slot). s .taken) (h .slots) slot next noSlot refl) (told-right h e))
-      (slots-one keys counts keys counts (h .slots) slot next (there h slot shape e inside) (λ j g. refl) (told-slots h e)
-      (slot-right slot next keys counts t right))
+      (slots-one keys counts keys counts (h .slots) slot next (there h slot shape e inside) (λ j g. refl)
+      (told-slots h e) (slot-right slot next keys counts t right))
       (omega (
         arith,
         promised-one keys keys (h .slots) slot next (there h slot shape e inside) (λ j g. refl),
@@ -605,7 +606,8 @@ deliver-shaped h slot rec bytes shape =
     let ok = is-open h slot all in
     let ses = slotAt h slot .session in
     settled-shaped h slot shape (ok .fine) (ok .inside) (ok .opened) (verdictOn ses rec)
-    (judged-long ses rec (shape .parts slot (ok .inside)) (told h slot shape (ok .fine) (ok .inside) (ok .opened) .session))
+    (judged-long ses rec (shape .parts slot (ok .inside))
+    (told h slot shape (ok .fine) (ok .inside) (ok .opened) .session))
     (judged-key ses rec bytes))
 
 -- ---- any sequence of calls

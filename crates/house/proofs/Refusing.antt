@@ -167,8 +167,8 @@ deliver-number h slot rec =
 pub report-number : ReportNumber
 unfolding reported
 report-number h slot long =
-    checked-number unreported numberOf (λ (r : Reported). numberOf (r .answer)) (λ a. refl) (reportChecks h slot long) []
-    (record { answer = Done; rows = heldBy slot (keysOf h) }) (λ e. refl)
+    checked-number unreported numberOf (λ (r : Reported). numberOf (r .answer)) (λ a. refl)
+    (reportChecks h slot long) [] (record { answer = Done; rows = heldBy slot (keysOf h) }) (λ e. refl)
 
 pub close-number : CloseNumber
 unfolding closeSlot

@@ -70,8 +70,8 @@ module _ (h : House) (e : sound h ≡ true) where
   unfolding openSlot deliver delivered reported closeSlot figuresOf otherwise
   sound-other (Open slot floor) =
       rw e
-      (checked-where (refusal h) (λ (o : Answered). Other (o .answer)) otherwise (drop 1 (openChecks h slot floor)) _ refl
-      other (λ ok. other Done refl))
+      (checked-where (refusal h) (λ (o : Answered). Other (o .answer)) otherwise (drop 1 (openChecks h slot floor)) _
+      refl other (λ ok. other Done refl))
   sound-other (Deliver slot rec) =
       let s = slotAt h slot .session in
       rw e

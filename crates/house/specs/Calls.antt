@@ -1,7 +1,7 @@
 -- The calls. Document 01, "The house, its slots and its rows", Calls, and "Refusal numbers", Order of checks.
 --
---   openSlot, deliver, closeSlot, figuresOf   what each call answers, and the house after it: its checks in their order,
---                                             and what it does where all hold
+--   openSlot, deliver, closeSlot, figuresOf   what each call answers, and the house after it: its checks, in order, and
+--                                             what it does where all hold
 --   openChecks, slotChecks                    the checks of Open, and of every call that asks for an open slot
 --   settledTo                                 what a verdict on a record to a slot does
 --   Settleable                                what is known where it is settled

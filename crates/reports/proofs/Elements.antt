@@ -1,4 +1,5 @@
--- An element of an array that lies in a local, for proofs that walk code: `types.Part` has the same for a struct's field.
+-- An element of an array that lies in a local, for proofs that walk code: `types.Part` has the same for a field of a
+-- struct.
 --   element        the cell of element j, within the cell of its array
 --   look-element   element j of a struct's field that is an array is read
 -- Assumes `Given`.
@@ -17,7 +18,8 @@ use prog.Memory.{size}
 use prog.Model.{elems}
 use prog.Wp.{Heap}
 use ghost.Atoms.{Atoms}
-use types.Kit.{Given, Item, ‵, raw, _⊛_, mean, nth, _$_, _∵_, !, qed, move, use1, use2, split, assume, frame, each, done}
+use types.Kit.{Given, Item, ‵, raw, _⊛_, mean, nth, _$_, _∵_, !, qed, move, use1, use2, split, assume, frame, each}
+use types.Kit.{done}
 use types.Part.{Part, look-in}
 use types.Run.{Reads}
 use denote.Index.{place}
@@ -89,8 +91,8 @@ module _ {M : Type 1} {𝓤 : URA M} {H : Heap 𝓤} {A : Atoms 𝓤} {K : Type 
       }
 
   -- a field that is an array of structs has its machine's values by two steps, as the laws of a declared type have them
-  pub look-element : K → {Γ : List (Item 𝓤)} (k : ℕ) {q : Share} {τ : Ty} {n b o : ℕ} {back : Val → Item 𝓤} {X Y : Type 0}
-      (f : Y → Val) (g : X → Y) (xs : List X) (j : ℕ) (d : X) → length xs ≡ n → j < length xs
+  pub look-element : K → {Γ : List (Item 𝓤)} (k : ℕ) {q : Share} {τ : Ty} {n b o : ℕ} {back : Val → Item 𝓤}
+      {X Y : Type 0} (f : Y → Val) (g : X → Y) (xs : List X) (j : ℕ) (d : X) → length xs ≡ n → j < length xs
       → Part K W (nth 𝓤 H A k Γ) q (tyArray τ n) b o (vstruct (ofList (map f (map g xs)))) back
       → Reads K W Γ τ b (place (size τ) o j) (f (g (getD xs j d)))
   look-element t {Γ} k {q} {τ} {n} {b} {o} f g xs j d e l p =

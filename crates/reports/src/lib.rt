@@ -66,7 +66,7 @@ fn first_row(house: House, slot: u32, rows: usize) -> usize
 }
 
 // A row of a report. It is given its two numbers and not the house they stand in: a house is 21 KB, and is not copied
-// for each row. The count of a row in a sound house fits: it is part of the slot's sum, which is the number of its PRRs.
+// for each row. The count of a row in a sound house fits: it is part of the slot's sum, the number of its PRRs.
 fn keyed_row(key: u64, count: u64) -> Row
     requires { ⌜ count < pastCounts ⌝ }
     ensures { λ r. ⌜ r ≡ keyedRow key count ⌝ }

@@ -1,5 +1,5 @@
--- `cases_reports::lend_pair` meets its contract: a walk of its MIR, by hand. Both rows of the local array are lent for the
--- time of the call of `report`, and come back as `report` left them.
+-- `cases_reports::lend_pair` meets its contract: a walk of its MIR, by hand. Both rows of the local array are lent for
+-- the time of the call of `report`, and come back as `report` left them.
 -- Assumes nothing.
 use mathlib.Core.Path.{_≡_, refl, sym, ap, subst, _∙_}
 use Prim.Native.Nat.{ℕ, _<_, _^_}
@@ -272,7 +272,8 @@ module _ {M : Type 1} (𝓤 : URA M) (H : Heap 𝓤) (A : Atoms 𝓤) (W : Given
         (‵ (lasts report.ended (κ, tt) (x, (h, (sl, tt))) ws)
         ∷ raw (fact 𝓤 ((r ≡ reported h sl (length xs)) × (ws .0 ≡ left r))) ∷ []) ∵
         move ! (1 ∷ []) $ heard ! ((r ≡ reported h sl (length xs)) × (ws .0 ≡ left r)) (λ e. fsplit ! $ fsplit ! $
-        rewrite ! 0 (λ (l : List Row). ‵ (finally T.the-row γ l)) (e .1) refl $ says ! (e .0) $ keep ! (0 ∷ []) $ done !))
+        rewrite ! 0 (λ (l : List Row). ‵ (finally T.the-row γ l)) (e .1) refl $ says ! (e .0) $ keep ! (0 ∷ []) $
+        done !))
 
   module _ (𝓣 : Tables 𝓤 H) (known : Triple 𝓤 (𝓣 .C #reports·report) (Report 𝓤 H A mem″ run))
       (l₀ l₁ l₂ l₃ l₄ l₅ l₆ l₇ l₈ : ℕ) where

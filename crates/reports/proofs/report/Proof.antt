@@ -1,7 +1,7 @@
 -- `reports::report` meets its contract: a walk of its MIR, by hand. The borrow is opened once, before the loop, and
 -- closed once, after it.
--- In between the row of elements is the function's own: a turn reads a row where it stands in the listing, takes element
--- i out, stores the row to it, and puts it back.
+-- In between the row of elements is the function's own: a turn reads a row where it stands in the listing, takes
+-- element i out, stores the row to it, and puts it back.
 -- Assumes nothing.
 use mathlib.Core.Path.{_≡_, refl, sym, ap, subst, _∙_}
 use Prim.Native.Nat.{ℕ, zero, suc, _<_, _≤_, _^_, _*_, _+_}
@@ -433,7 +433,8 @@ module _ {M : Type 1} (𝓤 : URA M) (H : Heap 𝓤) (A : Atoms 𝓤) (W : Given
       -- the borrow is opened
       opened : Seq Go W (Called l) (runs C Λ En text.t-3 (atRet En Post))
       opened =
-          assigns ! (of-opd ! (load ! (from ! (stop !)) (look ! 16 refl))) (from ! (stop !)) (init ! 20 refl listing-typed) $
+          assigns ! (of-opd ! (load ! (from ! (stop !)) (look ! 16 refl))) (from ! (stop !))
+          (init ! 20 refl listing-typed) $
           assigns ! (of-opd ! (lit ! tt)) (from ! (stop !)) (init ! 18 refl (tt, record { fits = lit< tt })) $
           move ! (31 ∷ []) $ fsplit ! $ fsplit ! $ move ! (1 ∷ []) $ fsplit ! $ move ! (34 ∷ []) $ split ! $
           move ! (2 ∷ 3 ∷ 0 ∷ []) $ opens-slice ! tt T.the-row ys b o $
