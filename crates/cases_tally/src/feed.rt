@@ -1,8 +1,8 @@
 // A stream fed record by record, each cut into chunks, and the text at its end.
-use following::Stream;
-use following::begin;
-use following::finish;
-use following::follow;
+use tallying::Stream;
+use tallying::begin;
+use tallying::finish;
+use tallying::follow;
 use transcript::say;
 use transcript::say_number;
 ghost use mathlib.Core.Path.{_≡_};

@@ -2,7 +2,7 @@
 use crate::feed::end;
 use crate::feed::put;
 use crate::feed::put_first;
-use following::Stream;
+use tallying::Stream;
 ghost use Prim.Native.Nat.{_≤_};
 ghost use Rattle.cases_tally.specs.Feed.{Ready};
 

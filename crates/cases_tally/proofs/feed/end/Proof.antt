@@ -1,7 +1,7 @@
 -- `cases_tally::feed::end` ends, and writes no more than the text.
 -- Assumes nothing.
 use borrow.Author.Needs.{needs}
-use Rattle.following.proofs.Texts.{put-within}
+use Rattle.tally_lines.proofs.Lines.{put-within}
 use Rattle.cases_tally.proofs.feed.end.Statement.{statement}
 use Rattle.cases_tally.proofs.feed.end.Tie as tie
 

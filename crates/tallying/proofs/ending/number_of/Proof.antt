@@ -1,0 +1,46 @@
+-- `tallying::ending::number_of` meets its contract.
+-- Assumes nothing.
+use borrow.Author.Needs.{needs}
+use Rattle.tallying.proofs.ending.number_of.Statement.{statement}
+use Rattle.tallying.proofs.ending.number_of.Tie as tie
+
+enum-known-v : tie.Need-enum-known-v
+enum-known-v c = search needs
+
+number-requires : tie.Need-number-requires
+number-requires c κs = search needs
+
+enum-told : tie.Need-enum-told
+enum-told c = search needs
+
+enum-told-2 : tie.Need-enum-told-2
+enum-told-2 c = search needs
+
+enum-told-3 : tie.Need-enum-told-3
+enum-told-3 c = search needs
+
+returns : tie.Need-returns
+returns c = rw (c .before .before .v .given .1) (c .number .ensures)
+
+returns-2 : tie.Need-returns-2
+returns-2 c = search needs
+
+returns-3 : tie.Need-returns-3
+returns-3 c = search needs
+
+returns-4 : tie.Need-returns-4
+returns-4 c = search needs
+
+pub number-of-spec : {M : Type 1} → statement M
+number-of-spec =
+    tie.close
+    (tie.spec
+    enum-known-v
+    number-requires
+    enum-told
+    enum-told-2
+    enum-told-3
+    returns
+    returns-2
+    returns-3
+    returns-4)
