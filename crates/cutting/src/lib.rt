@@ -1,24 +1,10 @@
 // How a stream is cut into records: document 01, "Tally program", the first record, and "Record frame and kinds",
 // REC_LEN. specs/Walk.antt has the walk over any bytes and any state, byte after byte; where the records are heard is no
 // business of this crate.
-use order::Place;
 use session::Standing;
+use session::is_start;
 ghost use mathlib.Core.Path.{_≡_};
-ghost use Rattle.session.specs.Session.{isStart};
 ghost use Rattle.cutting.specs.Needed.{needed};
-
-pub fn is_start(place: Place) -> bool
-    ensures { λ r. ⌜ r ≡ isStart place ⌝ }
-{
-    match place {
-        Place::Start => true,
-        Place::Header => false,
-        Place::Lot => false,
-        Place::Setup => false,
-        Place::Body => false,
-        Place::Ended => false,
-    }
-}
 
 // How many bytes the record that begins here has, as far as these tell.
 pub fn needed(st: Standing, bytes: &[u8]) -> usize

@@ -16,12 +16,13 @@ use Rattle.session.specs.Session as session
 use Rattle.session.specs.Session.{mostOpen}
 use Rattle.house.specs.declared.House.{House}
 use Rattle.house.specs.declared.Answered.{Answered}
+use Rattle.house.specs.declared.Room.{Room}
 use Rattle.house.specs.House.{rowCount, noSlot, closedSlot, openedSlot, fresh, unfilled, promisedFrom, promised, sound}
 use Rattle.house.specs.Deliver.{Core, core, Outcome, delivered}
-use Rattle.house.specs.Calls.{slotAt, answered, openSlot, roomOf, deliver}
+use Rattle.house.specs.Calls.{slotAt, answered, openSlot, roomOf, withOutcome, deliver}
 use Rattle.house.specs.History.{Deliver}
 use Rattle.house.specs.Laws.{Shaped}
-use Rattle.house.proofs.Calling.{deliver-judged, lent-to, laid-back, open-done}
+use Rattle.house.proofs.Calling.{deliver-judged, lent-to, open-done}
 use Rattle.house.proofs.Keeping.{deliver-keeps, after-shaped, open-keeps, fresh-sound, fresh-shaped}
 use Rattle.cutting.specs.Needed.{needed, cut}
 use Rattle.cutting.specs.Walk.{Heard, Kept, Turned, Walked, Waits, Stops, walked, stateOf}
@@ -67,7 +68,7 @@ module _ (c : Core) (shape : Shaped (aloneHouse c)) (fine : sound (aloneHouse c)
     deliver-alone : deliver (aloneHouse c) 0 rec ≡ answered (delivered aloneRoom c rec .answer) (aloneHouse after)
     deliver-alone =
         deliver-judged (aloneHouse c) 0 rec fine (omega arith) refl
-        ∙ sym (laid-back (aloneHouse c) 0 refl (room-alone c) rec (delivered aloneRoom c rec) refl)
+        ∙ ap (λ (room : Room). withOutcome (aloneHouse c) 0 (delivered room c rec)) (sym (room-alone c))
 
     module _ (bytes : Bytes rec) where
       fine-after : sound (aloneHouse after) ≡ true

@@ -1,14 +1,14 @@
 // What is written at the end of a stream: document 01, "Tally program".
 use crate::Stream;
 use calls::list_rows;
-use cutting::is_start;
+use first_record::judge_first;
 use house::House;
 use house::Slot;
-use lent::is_sound;
 use order::Place;
 use session::Session;
-use session::Verdict;
-use session::judge_first;
+use session::is_start;
+use session::verdict_number;
+use soundness::is_sound;
 use tally_lines::put_refused;
 use tally_lines::put_row;
 use tally_lines::put_too_long;
@@ -20,7 +20,6 @@ ghost use Prim.Native.Nat.{_+_, _≤_};
 ghost use lib.ListN.{length, take};
 ghost use Rattle.answers.specs.Numbers.{numberOf};
 ghost use Rattle.output.specs.Placed.{Put};
-ghost use Rattle.session.specs.Results.{verdictNumber};
 ghost use Rattle.walking.specs.Lent.{pastCount};
 ghost use Rattle.tallying.specs.Text.{reportLines, isEnded, leftOver, stoppedLine, endedWith, ended};
 ghost use Rattle.tallying.specs.Lent.{streamHouse, progressOf};
@@ -77,18 +76,6 @@ fn is_ended(place: Place) -> bool
     }
 }
 
-// The number of a verdict on a record by itself.
-fn number_of(v: Verdict) -> u8
-    ensures { λ r. ⌜ r ≡ verdictNumber v ⌝ }
-{
-    match v {
-        Verdict::Refused(answer) => answers::number(answer),
-        Verdict::Taken(_) => 0,
-        Verdict::Opened(_, _, _) => 0,
-        Verdict::Wanted(_, _, _) => 0,
-    }
-}
-
 // What bytes left over are refused with: 3, but the first record is all bytes where they are fewer than six. It is
 // judged by itself, so that the walk over a chunk alone delivers, and its code stands in one place.
 fn left_over(s: Stream, bytes: &[u8]) -> u8
@@ -100,7 +87,7 @@ fn left_over(s: Stream, bytes: &[u8]) -> u8
         return 3;
     }
     if is_sound(house_of(s)) {
-        number_of(judge_first(st, bytes))
+        verdict_number(judge_first(st, bytes))
     } else {
         15
     }

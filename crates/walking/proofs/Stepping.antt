@@ -17,7 +17,7 @@ use Rattle.rows.specs.Rows.{rowKey}
 use Rattle.session.specs.declared.Standing.{Standing}
 use Rattle.session.specs.declared.Verdict.{Verdict}
 use Rattle.session.specs.declared.Verdict.the-variants as verdict
-use Rattle.session.specs.Judge.{judge}
+use Rattle.judging.specs.Judge.{judge}
 use Rattle.house.specs.declared.Room.{Room}
 use Rattle.house.specs.Deliver.{Core, core, Outcome, outcome, granted, rowTaken, resultedIf, settled, delivered}
 use Rattle.house.specs.Deliver.{LentCore}
@@ -45,18 +45,17 @@ told-needed s bytes stands is = is ∙ rw (stands, rest-all bytes (s .at))
 -- ---- what a record does
 
 -- a refusal changes nothing
-settled-refused : (room : Room) (c : Core) (v : Verdict) → (settled room c v .answer ≡ Done → ⊥)
+settled-same : (room : Room) (c : Core) (v : Verdict) → (settled room c v .answer ≡ Done → ⊥)
     → settled room c v .core ≡ c
 unfolding settled resultedIf rowTaken
-settled-refused room c (verdict.Refused a) not = refl
-settled-refused room c (verdict.Taken next) not = absurd (not refl)
-settled-refused room c (verdict.Opened next rank part) not = absurd (not refl)
-settled-refused room c (verdict.Wanted next rank key) not =
+settled-same room c (verdict.Refused a) not = refl
+settled-same room c (verdict.Taken change) not = absurd (not refl)
+settled-same room c (verdict.Wanted change key) not =
     go (granted room (take (c .used) (c .keys)) (rowKey (room .slot) key)) refl not
   where
     go : (b : Bool) → granted room (take (c .used) (c .keys)) (rowKey (room .slot) key) ≡ b
-        → (settled room c (verdict.Wanted next rank key) .answer ≡ Done → ⊥)
-        → settled room c (verdict.Wanted next rank key) .core ≡ c
+        → (settled room c (verdict.Wanted change key) .answer ≡ Done → ⊥)
+        → settled room c (verdict.Wanted change key) .core ≡ c
     go true got = rw got (λ not. absurd (not refl))
     go false got = rw got (λ not. refl)
 
@@ -67,7 +66,7 @@ refused-same room c rec o is not =
     let v = judge (c .standing) (take (c .standing .opened) (c .parts)) rec in
     let told : o ≡ settled room c v = is in
     ap (λ (x : Outcome). x .core) told
-    ∙ settled-refused room c v (λ e. not (ap (λ (x : Outcome). numberOf (x .answer)) told ∙ ap numberOf e))
+    ∙ settled-same room c v (λ e. not (ap (λ (x : Outcome). numberOf (x .answer)) told ∙ ap numberOf e))
 
 -- what has stopped does not go on
 never-going : {why : Stop} → Stopped why ≡ Going → ⊥

@@ -27,11 +27,14 @@ use Rattle.order.specs.Order.{goes}
 use Rattle.session.specs.declared.Standing.{Standing}
 use Rattle.session.specs.declared.Verdict.the-variants.{Taken}
 use Rattle.session.specs.Session.{isStart}
-use Rattle.session.specs.Judge.{at, judge}
-use Rattle.session.proofs.Laws.{later-said, judge-further}
+use Rattle.session.specs.Verdicts.{stands}
+use Rattle.later_records.specs.Later.{at}
+use Rattle.later_records.proofs.Laws.{later-said}
+use Rattle.judging.specs.Judge.{judge}
+use Rattle.judging.proofs.Laws.{judged-later}
 use Rattle.house.specs.declared.Room.{Room}
 use Rattle.house.specs.Deliver.{outcome, core, delivered}
-use Rattle.house.proofs.Delivering.{delivered-taken}
+use Rattle.house.proofs.Delivering.{delivered-stands}
 use Rattle.cutting.specs.Needed.{needed}
 use Rattle.cutting.proofs.Cuts.{needed-later, needed-some, whole-needed}
 use Rattle.walking.specs.declared.Fate.the-variants.{Going}
@@ -80,27 +83,27 @@ module _ (st : Standing) (parts rec : List ℕ) (inside : st .place ≡ Body) (f
     same : at st Body ≡ st
     same = ap (λ (p : Place). at st p) (sym inside)
 
-    passed : (k : Remaining) → kind.Remaining k ≡ kindOf (recTyp rec) (recSub rec) → judge st parts rec ≡ Taken st
+    passed : (k : Remaining) → kind.Remaining k ≡ kindOf (recTyp rec) (recSub rec) → judge st parts rec ≡ Taken (stands st)
     unfolding readBody
     passed k is =
         let further : isStart (st .place) ≡ false = rw inside in
         let to : goes (st .place) (kind.Remaining k) ≡ To Body = rw inside in
-        judge-further st parts rec further
+        judged-later st parts rec further
         ∙ later-said st parts rec framed (kind.Remaining k) is refl Body to said.Unread refl
-        ∙ ap (λ (s : Standing). Taken s) same
+        ∙ ap (λ (s : Standing). Taken (stands s)) same
 
     module _ (typ : recTyp rec ≡ 15) where
       named-by : (k : Remaining) (sub : ℕ) → recSub rec ≡ sub → kind.Remaining k ≡ kindOf 15 sub
-          → judge st parts rec ≡ Taken st
+          → judge st parts rec ≡ Taken (stands st)
       named-by k sub e is = passed k (rw (typ, e) is)
 
       pub test-taken : (eqb (recSub rec) 10 || (eqb (recSub rec) 15 || eqb (recSub rec) 20)) ≡ true
-          → judge st parts rec ≡ Taken st
+          → judge st parts rec ≡ Taken (stands st)
       unfolding kindOf named
       test-taken = go (eqb (recSub rec) 10) refl (eqb (recSub rec) 15) refl
         where
           go : (a : Bool) → eqb (recSub rec) 10 ≡ a → (b : Bool) → eqb (recSub rec) 15 ≡ b
-              → (a || (b || eqb (recSub rec) 20)) ≡ true → judge st parts rec ≡ Taken st
+              → (a || (b || eqb (recSub rec) 20)) ≡ true → judge st parts rec ≡ Taken (stands st)
           go true e b f g = named-by Ptr 10 (eqb-true (recSub rec) 10 e) refl
           go false e true f g = named-by Mpr 15 (eqb-true (recSub rec) 15 f) refl
           go false e false f g = named-by Ftr 20 (eqb-true (recSub rec) 20 g) refl
@@ -149,7 +152,7 @@ module _ (room : Room) (most : ℕ) (keys counts parts : List ℕ) (s : Stage) (
     inside =
         body-told (s .place) (both-right (eqb sub 10 || (eqb sub 15 || eqb sub 20)) (isBody (s .place)) behind)
 
-    judged : judge (stageStanding s) (take (s .opened) parts) (take n (rest s bytes)) ≡ Taken (stageStanding s)
+    judged : judge (stageStanding s) (take (s .opened) parts) (take n (rest s bytes)) ≡ Taken (stands (stageStanding s))
     unfolding isTest
     judged =
         let rec = take n (rest s bytes) in
@@ -181,7 +184,7 @@ module _ (room : Room) (most : ℕ) (keys counts parts : List ℕ) (s : Stage) (
         let size : s .at + n - s .at ≡ n = omega arith in
         let did : outcome Done keys counts (s .used) st parts
         ≡ delivered room (core keys counts (s .used) st parts) (take (s .at + n - s .at) (drop (s .at) bytes))
-        = delivered-taken room keys counts (s .used) st parts (take (s .at + n - s .at) (drop (s .at) bytes)) st
+        = delivered-stands room (core keys counts (s .used) st parts) (take (s .at + n - s .at) (drop (s .at) bytes)) st
         (rw size judged) in
         step-accepted room most keys counts parts s bytes w looking n is low there range refl Done keys counts
         (s .used) st parts did refl
