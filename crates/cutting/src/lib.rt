@@ -1,6 +1,6 @@
 // How a stream is cut into records: document 01, "Tally program", the first record, and "Record frame and kinds",
-// REC_LEN. specs/Walk.antt has the walk over any bytes and any state, byte after byte; where the records are heard is no
-// business of this crate.
+// REC_LEN. specs/Walk.antt has the walk over any bytes and any state, byte after byte; where the records are heard is
+// no business of this crate.
 use session::Standing;
 use session::is_start;
 ghost use mathlib.Core.Path.{_≡_};

@@ -18,6 +18,7 @@ use Rattle.cutting.specs.Walk.{walked}
 use Rattle.walking.specs.declared.Fate.{Fate}
 use Rattle.walking.specs.declared.Fate.the-variants.{Going, Stopped}
 use Rattle.walking.specs.declared.Stage.{Stage}
+use Rattle.walking.specs.Walking.{stage}
 use Rattle.tallying.specs.declared.Stream.{Stream}
 use Rattle.tallying.specs.Following.{Progress, progress, hearing, resumed, followed, mostLength, begun}
 
@@ -72,22 +73,7 @@ pub record Begun (s : Stream) : Type 0 where
 
 -- its first stage
 abbrev pub staged : Stream → Stage
-staged s =
-    record {
-      used = s .used;
-      place = s .standing .place;
-      order = s .standing .order;
-      opened = s .standing .opened;
-      pcr = s .standing .pcr;
-      results = s .standing .results;
-      accepted = s .accepted;
-      fate = Going;
-      at = 0;
-      more = true;
-    }
-
-abbrev pub Staged : Stream → Stage → Type 0
-Staged s r = r ≡ staged s
+staged s = stage (s .used) (s .standing) (s .accepted) Going 0 true
 
 -- where the bytes begin that are held after it
 abbrev pub keptFrom : Fate → ℕ → ℕ → ℕ

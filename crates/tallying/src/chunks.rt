@@ -4,7 +4,7 @@ use crate::Stream;
 use house::Room;
 use session::Session;
 use walking::Fate;
-use walking::Stage;
+use walking::stage_of;
 use walking::standing_of;
 use walking::walk;
 ghost use mathlib.Core.Path.{_≡_};
@@ -13,7 +13,7 @@ ghost use Prim.Native.Nat.{_+_, _-_, _≤_};
 ghost use lib.ListN.{length, take, drop};
 ghost use Rattle.walking.specs.declared.Fate.the-variants.{Going};
 ghost use Rattle.walking.specs.Lent.{pastCount};
-ghost use Rattle.tallying.specs.Lent.{aloneRoom, keptFrom, Right, Begun, Followed, Staged};
+ghost use Rattle.tallying.specs.Lent.{aloneRoom, keptFrom, Right, Begun, Followed};
 
 // A record of more bytes is too long.
 const MOST_LENGTH: usize = 65536;
@@ -73,26 +73,6 @@ fn kept_from(fate: Fate, at: usize, end: usize) -> usize
     }
 }
 
-fn stage_of(s: Stream) -> Stage
-    ensures { λ r. ⌜ Staged s r ⌝ }
-{
-    let st = s.standing;
-    let place = st.place;
-    let order = st.order;
-    Stage {
-        used: s.used,
-        place,
-        order,
-        opened: st.opened,
-        pcr: st.pcr,
-        results: st.results,
-        accepted: s.accepted,
-        fate: Fate::Going,
-        at: 0,
-        more: true,
-    }
-}
-
 fn follow_on(s: Stream, buf: &mut [u8], got: usize) -> Stream
     requires { ⌜ Right s (now buf) × (s .fate ≡ Going) × (s .held + got ≤ length (now buf))
         × (s .accepted + (s .held + got) ≤ pastCount) ⌝ }
@@ -102,6 +82,7 @@ fn follow_on(s: Stream, buf: &mut [u8], got: usize) -> Stream
     let mut counts = s.counts;
     let mut guesses = s.guesses;
     let mut parts = s.parts;
+    let st = s.standing;
     let end = s.held + got;
     let w = walk(
         &mut keys,
@@ -110,7 +91,7 @@ fn follow_on(s: Stream, buf: &mut [u8], got: usize) -> Stream
         &mut parts,
         alone(),
         MOST_LENGTH,
-        stage_of(s),
+        stage_of(s.used, st, s.accepted, Fate::Going, 0, true),
         &buf[0..end],
     );
     let standing = standing_of(w);

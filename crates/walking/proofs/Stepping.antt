@@ -27,10 +27,11 @@ use Rattle.cutting.proofs.Walks.{walked-append, walked-stops, bytes-append}
 use Rattle.cutting.proofs.Cuts.{needed-some, cut-record, cut-waits, cut-alone, cut-heard, cut-long}
 use Rattle.walking.specs.declared.Stop.{Stop}
 use Rattle.walking.specs.declared.Stop.the-variants.{Refused, TooLong}
+use Rattle.walking.specs.declared.Fate.{Fate}
 use Rattle.walking.specs.declared.Fate.the-variants.{Going, Stopped}
 use Rattle.walking.specs.declared.Stage.{Stage}
 use Rattle.walking.specs.Walking.{Progress, progress, standing, heard, delivering, stageStanding, stageProgress}
-use Rattle.walking.specs.Walking.{rest}
+use Rattle.walking.specs.Walking.{stage, rest, endsBy}
 use Rattle.walking.specs.Lent.{LentTo, Lendable, Walkable, Arrived, leadsBy, leads, ahead, Onward, Stepped}
 
 -- the part `&bytes[at..]`
@@ -102,84 +103,51 @@ module _ (room : Room) (most : ℕ) (keys counts parts : List ℕ) (s : Stage) (
   lent-step stands = rw stands (w .lendable [] (λ k. omega arith))
 
   module _ (n : ℕ) (is : n ≡ needed (stageStanding s) (rest s bytes)) where
-    -- ---- a record that is not whole
+    -- ---- a record at which the walk stays
 
-    pub step-short : n ≤ most → length bytes - s .at < n
-        → Stepped room most keys counts parts s keys counts parts
-        (record {
-          used = s .used;
-          place = s .place;
-          order = s .order;
-          opened = s .opened;
-          pcr = s .pcr;
-          results = s .results;
-          accepted = s .accepted;
-          fate = Going;
-          at = s .at;
-          more = false;
-        }) bytes
+    module _ (fate : Fate) where
+      stays : Walkable room most keys counts parts (stage (s .used) (stageStanding s) (s .accepted) fate (s .at) false)
+          bytes
+      stays =
+          record { takes = w .takes; lendable = w .lendable; within = w .within; countable = w .countable }
+
+      stayed : endsBy fate most (stageProgress keys counts parts s) (rest s bytes)
+          ≡ leads room most keys counts parts s bytes
+          → (fate ≡ Going → length (rest s bytes) < most) → {r : Stage}
+          → r ≡ stage (s .used) (stageStanding s) (s .accepted) fate (s .at) false
+          → Stepped room most keys counts parts s keys counts parts r bytes
+      stayed same few told =
+          rw told
+          (record {
+            onward = record { kept = stays; same = same; few = λ e. few; fits = omega arith };
+            nearer = omega (arith, before);
+          })
+
+    -- it is not whole
+    pub step-short : n ≤ most → length bytes - s .at < n → {r : Stage}
+        → r ≡ stage (s .used) (stageStanding s) (s .accepted) Going (s .at) false
+        → Stepped room most keys counts parts s keys counts parts r bytes
     step-short low short =
         let p = stageProgress keys counts parts s in
         let whole = cut-record most (stageStanding s) (rest s bytes) (omega (arith, is, low)) in
-        record {
-          onward =
-              record {
-                kept =
-                    record {
-                      takes = w .takes;
-                      lendable = w .lendable;
-                      within = w .within;
-                      countable = w .countable;
-                    };
-                same =
-                    sym
-                    (looks
-                    ∙ cut-waits Progress Stop standing most TooLong _ p (rest s bytes) (w .takes)
-                    (omega (arith, left-long, short, is, whole)));
-                few = λ e f. omega (arith, left-long, short, low);
-                fits = omega arith;
-              };
-          nearer = omega (arith, before);
-        }
+        stayed Going
+        (sym
+        (looks
+        ∙ cut-waits Progress Stop standing most TooLong _ p (rest s bytes) (w .takes)
+        (omega (arith, left-long, short, is, whole))))
+        (λ e. omega (arith, left-long, short, low))
 
-    -- ---- a record that is too long
-
-    pub step-long : most < n
-        → Stepped room most keys counts parts s keys counts parts
-        (record {
-          used = s .used;
-          place = s .place;
-          order = s .order;
-          opened = s .opened;
-          pcr = s .pcr;
-          results = s .results;
-          accepted = s .accepted;
-          fate = Stopped TooLong;
-          at = s .at;
-          more = false;
-        }) bytes
+    -- it is too long
+    pub step-long : most < n → {r : Stage}
+        → r ≡ stage (s .used) (stageStanding s) (s .accepted) (Stopped TooLong) (s .at) false
+        → Stepped room most keys counts parts s keys counts parts r bytes
     step-long long =
         let p = stageProgress keys counts parts s in
-        record {
-          onward =
-              record {
-                kept =
-                    record {
-                      takes = w .takes;
-                      lendable = w .lendable;
-                      within = w .within;
-                      countable = w .countable;
-                    };
-                same =
-                    sym
-                    (looks
-                    ∙ cut-long Progress Stop standing most TooLong _ p (rest s bytes) (w .takes)
-                    (omega (arith, is, long)));
-                few = λ e f. absurd (never-going f);
-                fits = omega arith;
-              };
-          nearer = omega (arith, before);
-        }
+        stayed (Stopped TooLong)
+        (sym
+        (looks
+        ∙ cut-long Progress Stop standing most TooLong _ p (rest s bytes) (w .takes) (omega (arith, is, long))))
+        (λ e. absurd (never-going e))
 
     -- ---- a record that is there
 
@@ -238,18 +206,7 @@ module _ (room : Room) (most : ℕ) (keys counts parts : List ℕ) (s : Stage) (
 
         pub step-accepted : numberOf a ≡ 0
             → Stepped room most keys counts parts s ks cs ps
-            (record {
-              used = used;
-              place = st .place;
-              order = st .order;
-              opened = st .opened;
-              pcr = st .pcr;
-              results = st .results;
-              accepted = s .accepted + 1;
-              fate = Going;
-              at = s .at + n;
-              more = true;
-            }) bytes
+            (stage used st (s .accepted + 1) Going (s .at + n) true) bytes
         step-accepted e =
             let p = stageProgress keys counts parts s in
             let q = progress (core ks cs used st ps) (s .accepted + 1) in
@@ -272,21 +229,10 @@ module _ (room : Room) (most : ℕ) (keys counts parts : List ℕ) (s : Stage) (
               nearer = omega (arith, before, some, is);
             }
 
-        pub step-refused : (numberOf a ≡ 0 → ⊥)
-            → Stepped room most keys counts parts s ks cs ps
-            (record {
-              used = used;
-              place = st .place;
-              order = st .order;
-              opened = st .opened;
-              pcr = st .pcr;
-              results = st .results;
-              accepted = s .accepted;
-              fate = Stopped (Refused a);
-              at = s .at;
-              more = false;
-            }) bytes
-        step-refused not =
+        pub step-refused : (numberOf a ≡ 0 → ⊥) → {r : Stage}
+            → r ≡ stage used st (s .accepted) (Stopped (Refused a)) (s .at) false
+            → Stepped room most keys counts parts s ks cs ps r bytes
+        step-refused not told =
             let p = stageProgress keys counts parts s in
             let same-core : core ks cs used st ps ≡ core keys counts (s .used) (stageStanding s) parts
             = refused-same room (core keys counts (s .used) (stageStanding s) parts) (take n (rest s bytes))
@@ -294,7 +240,8 @@ module _ (room : Room) (most : ℕ) (keys counts parts : List ℕ) (s : Stage) (
             let whole = cut-record most (stageStanding s) (rest s bytes) (omega (arith, is, low)) ∙ sym is in
             let stops = walked-stops Progress Stop (delivering room most) p (take n (rest s bytes)) (Refused a) []
             (drop (s .at + n) bytes) in
-            record {
+            rw told
+            (record {
               onward =
                   record {
                     kept =
@@ -320,7 +267,7 @@ module _ (room : Room) (most : ℕ) (keys counts parts : List ℕ) (s : Stage) (
                     fits = omega arith;
                   };
               nearer = omega (arith, before);
-            }
+            })
 
 -- ---- step after step
 

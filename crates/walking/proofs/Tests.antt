@@ -39,7 +39,7 @@ use Rattle.cutting.specs.Needed.{needed}
 use Rattle.cutting.proofs.Cuts.{needed-later, needed-some, whole-needed}
 use Rattle.walking.specs.declared.Fate.the-variants.{Going}
 use Rattle.walking.specs.declared.Stage.{Stage}
-use Rattle.walking.specs.Walking.{stageStanding, rest}
+use Rattle.walking.specs.Walking.{stage, stageStanding, rest}
 use Rattle.walking.specs.Passing.{isBody, isTest}
 use Rattle.walking.specs.Lent.{Walkable, Stepped}
 use Rattle.walking.proofs.Stepping.{step-accepted}
@@ -83,7 +83,8 @@ module _ (st : Standing) (parts rec : List ℕ) (inside : st .place ≡ Body) (f
     same : at st Body ≡ st
     same = ap (λ (p : Place). at st p) (sym inside)
 
-    passed : (k : Remaining) → kind.Remaining k ≡ kindOf (recTyp rec) (recSub rec) → judge st parts rec ≡ Taken (stands st)
+    passed : (k : Remaining) → kind.Remaining k ≡ kindOf (recTyp rec) (recSub rec)
+        → judge st parts rec ≡ Taken (stands st)
     unfolding readBody
     passed k is =
         let further : isStart (st .place) ≡ false = rw inside in
@@ -167,18 +168,7 @@ module _ (room : Room) (most : ℕ) (keys counts parts : List ℕ) (s : Stage) (
         (both-left (eqb sub 10 || (eqb sub 15 || eqb sub 20)) (isBody (s .place)) behind))
 
     pub step-test : Stepped room most keys counts parts s keys counts parts
-        (record {
-          used = s .used;
-          place = s .place;
-          order = s .order;
-          opened = s .opened;
-          pcr = s .pcr;
-          results = s .results;
-          accepted = s .accepted + 1;
-          fate = Going;
-          at = s .at + n;
-          more = true;
-        }) bytes
+        (stage (s .used) (stageStanding s) (s .accepted + 1) Going (s .at + n) true) bytes
     step-test =
         let st = stageStanding s in
         let size : s .at + n - s .at ≡ n = omega arith in

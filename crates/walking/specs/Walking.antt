@@ -4,7 +4,7 @@
 --   delivering   each record is delivered to the slot that sees this room; one of more than `most` bytes is too long
 --   endsBy       how far a stream was walked, as a stage of the walk tells it
 -- Assumes nothing.
-use mathlib.Core.Bool.{cond}
+use mathlib.Core.Bool.{Bool, cond}
 use mathlib.Core.List.{List}
 use Prim.Native.Nat.{ℕ, _+_}
 use lib.Dec.{eqb}
@@ -40,6 +40,21 @@ abbrev pub delivering : Room → ℕ → Machine Progress Stop
 delivering room most = cutting standing most TooLong (λ p r. heard (p .accepted) (delivered room (p .core) r))
 
 -- ---- a stage of the walk
+
+abbrev pub stage : ℕ → Standing → ℕ → Fate → ℕ → Bool → Stage
+stage used st k fate at more =
+    record {
+      used = used;
+      place = st .place;
+      order = st .order;
+      opened = st .opened;
+      pcr = st .pcr;
+      results = st .results;
+      accepted = k;
+      fate = fate;
+      at = at;
+      more = more;
+    }
 
 abbrev pub stageStanding : Stage → Standing
 stageStanding s =

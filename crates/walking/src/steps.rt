@@ -12,7 +12,7 @@ ghost use mathlib.Core.Bool.{true, false};
 ghost use Prim.Native.Nat.{_+_, _≤_};
 ghost use lib.ListN.{length};
 ghost use Rattle.cutting.specs.Needed.{needed};
-ghost use Rattle.walking.specs.Walking.{stageStanding, rest};
+ghost use Rattle.walking.specs.Walking.{stage, stageStanding, rest};
 ghost use Rattle.walking.specs.Lent.{Walkable, Stepped, Arrived};
 
 pub fn standing_of(s: Stage) -> Standing
@@ -29,7 +29,55 @@ pub fn standing_of(s: Stage) -> Standing
     }
 }
 
-// A record that is there, of n bytes.
+// A stage, from a whole standing.
+pub fn stage_of(
+    used: usize,
+    st: Standing,
+    accepted: u64,
+    fate: Fate,
+    at: usize,
+    more: bool,
+) -> Stage
+    ensures { λ r. ⌜ r ≡ stage used st accepted fate at more ⌝ }
+{
+    let place = st.place;
+    let order = st.order;
+    Stage {
+        used,
+        place,
+        order,
+        opened: st.opened,
+        pcr: st.pcr,
+        results: st.results,
+        accepted,
+        fate,
+        at,
+        more,
+    }
+}
+
+// No further: at a record that is not whole, or that stops the walk.
+fn stay(s: Stage, fate: Fate) -> Stage
+    ensures { λ r. ⌜ r ≡ stage (s .used) (stageStanding s) (s .accepted) fate (s .at) false ⌝ }
+{
+    let place = s.place;
+    let order = s.order;
+    Stage {
+        used: s.used,
+        place,
+        order,
+        opened: s.opened,
+        pcr: s.pcr,
+        results: s.results,
+        accepted: s.accepted,
+        fate,
+        at: s.at,
+        more: false,
+    }
+}
+
+// A record that is there, of n bytes. Where the walk goes on, its stage is written out, here and below: through a call
+// a lot of tests takes a tenth more instructions.
 fn take_record(
     keys: &mut [u64],
     counts: &mut [u64],
@@ -61,9 +109,9 @@ fn take_record(
     );
     let answer = d.answer;
     let st = d.standing;
-    let place = st.place;
-    let order = st.order;
     if answers::number(answer) == 0 {
+        let place = st.place;
+        let order = st.order;
         return Stage {
             used: d.used,
             place,
@@ -78,19 +126,7 @@ fn take_record(
         };
     }
     let why = Stop::Refused(answer);
-    let fate = Fate::Stopped(why);
-    Stage {
-        used: d.used,
-        place,
-        order,
-        opened: st.opened,
-        pcr: st.pcr,
-        results: st.results,
-        accepted: s.accepted,
-        fate,
-        at,
-        more: false,
-    }
+    stage_of(d.used, st, s.accepted, Fate::Stopped(why), at, false)
 }
 
 // The record at `at`, if it is there whole.
@@ -115,33 +151,10 @@ fn step(
     let n = needed(standing_of(s), &bytes[at..end]);
     if most < n {
         let why = Stop::TooLong;
-        let fate = Fate::Stopped(why);
-        return Stage {
-            used: s.used,
-            place,
-            order,
-            opened: s.opened,
-            pcr: s.pcr,
-            results: s.results,
-            accepted: s.accepted,
-            fate,
-            at,
-            more: false,
-        };
+        return stay(s, Fate::Stopped(why));
     }
     if end - at < n {
-        return Stage {
-            used: s.used,
-            place,
-            order,
-            opened: s.opened,
-            pcr: s.pcr,
-            results: s.results,
-            accepted: s.accepted,
-            fate: Fate::Going,
-            at,
-            more: false,
-        };
+        return stay(s, Fate::Going);
     }
     if is_test(place, bytes[at + 2], bytes[at + 3]) {
         return Stage {

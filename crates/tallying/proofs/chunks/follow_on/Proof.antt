@@ -15,8 +15,11 @@ use Rattle.tallying.proofs.chunks.follow_on.Tie as tie
 
 -- ---- where a fact stands
 
+abbrev known : tie.After-stage-of → tie.After-slice-known
+known c = c .before .before .before .before .before .before .before .before .before .before .before .before
+
 abbrev start : tie.After-stage-of → tie.Start
-start c = c .before .before .before .before .before .before .before .before .before .before .before .before
+start c = known c .before
 
 abbrev staged : tie.After-walk → tie.After-stage-of
 staged c = c .before .before .before
@@ -34,11 +37,7 @@ cells : (c : tie.Start) → length (c .args .s .parts) ≡ 32
 cells c = search needs
 
 range : (c : tie.After-stage-of) → Bytes (now (start c .args .buf))
-range c k =
-    omega (
-      arith,
-      c .before .before .before .before .before .before .before .before .before .before .before .slice-known .given k,
-    )
+range c k = omega (arith, known c .slice-known .given k)
 
 walk-requires : tie.Need-walk-requires
 walk-requires c κs =

@@ -61,19 +61,27 @@ part-needed-end c = search needs
 needed-requires : tie.Need-needed-requires
 needed-requires c κs = search needs
 
+stay-requires : tie.Need-stay-requires
+stay-requires c κs = search needs
+
 returns : tie.Need-returns
 returns c =
-    let given = start (c .before) .pre in
-    step-long _ _ _ _ _ _ _ (given .0) (given .1) _ (told (c .before)) (c .if1 .taken)
+    let asked = c .before .before in
+    let given = start asked .pre in
+    step-long _ _ _ _ _ _ _ (given .0) (given .1) _ (told asked) (c .before .if1 .taken) (c .stay .ensures)
 
 sub-if2 : tie.Need-sub-if2
 sub-if2 c = search needs
 
+stay-requires-2 : tie.Need-stay-requires-2
+stay-requires-2 c κs = search needs
+
 returns-2 : tie.Need-returns-2
 returns-2 c =
-    let asked = c .before .before in
+    let asked = c .before .before .before in
     let given = start asked .pre in
-    step-short _ _ _ _ _ _ _ (given .0) (given .1) _ (told asked) (c .before .if1 .left) (c .if2 .taken)
+    step-short _ _ _ _ _ _ _ (given .0) (given .1) _ (told asked) (c .before .before .if1 .left) (c .before .if2 .taken)
+    (c .stay2 .ensures)
 
 add-is-test : tie.Need-add-is-test
 add-is-test c = search needs
@@ -142,8 +150,10 @@ step-spec =
     part-needed-start
     part-needed-end
     needed-requires
+    stay-requires
     returns
     sub-if2
+    stay-requires-2
     returns-2
     add-is-test
     shared-slice-read-is-test

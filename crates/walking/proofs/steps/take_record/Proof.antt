@@ -49,12 +49,15 @@ deliver-lent-requires c κs =
 number-requires : tie.Need-number-requires
 number-requires c κs = search needs
 
-add-t34 : tie.Need-add-t34
-add-t34 c =
+add-t33 : tie.Need-add-t33
+add-t33 c =
     let begun = start (stood (did (c .before .before))) in
     let given = begun .pre in
     let some = needed-some (stageStanding (begun .args .s)) (rest (begun .args .s) (now (begun .args .bytes))) in
     omega (arith, given .0 .0 .countable, given .1 .0, given .1 .2, some)
+
+stage-of-requires : tie.Need-stage-of-requires
+stage-of-requires c κs = search needs
 
 same-length : tie.Need-same-length
 same-length c = search needs
@@ -92,13 +95,13 @@ same-length-8 c = search needs
 
 returns-2 : tie.Need-returns-2
 returns-2 c =
-    let numbered = c .before in
+    let numbered = c .before .before in
     let delivered = did numbered in
     let standing = stood delivered in
     let given = start standing .pre in
     step-refused _ _ _ _ _ _ _ (given .0 .0) (given .0 .1) _ (given .1 .0) (given .1 .1) (given .1 .2) (range standing)
     (standing .standing-of .ensures) _ _ _ _ _ _ (delivered .deliver-lent .ensures .0)
-    (λ e. c .if1 .left (numbered .number .ensures ∙ e))
+    (λ e. c .before .if1 .left (numbered .number .ensures ∙ e)) (c .stage-of .ensures)
 
 pub take-record-spec : {M : Type 1} → statement M
 take-record-spec =
@@ -111,12 +114,13 @@ take-record-spec =
     part-deliver-lent-end
     deliver-lent-requires
     number-requires
-    add-t34
+    add-t33
     same-length
     same-length-2
     same-length-3
     same-length-4
     returns
+    stage-of-requires
     same-length-5
     same-length-6
     same-length-7
