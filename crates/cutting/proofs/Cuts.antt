@@ -1,23 +1,23 @@
 -- Laws of how long a record is, and the statements of specs/Laws.antt on records cut by their headers, proved.
 -- Assumes nothing.
 use mathlib.Core.Path.{_≡_, refl, ap, sym, _∙_}
-use mathlib.Core.Bool.{Bool, true, false, cond}
+use mathlib.Core.Bool.{Bool, true, false}
 use mathlib.Core.List.{List, [], _∷_, _++_, append-assoc, append-nil}
 use Prim.Native.Nat.{ℕ, zero, suc, _+_, _≤_, _<_}
 use native.Mathlib.Omega.{arith}
 use borrow.Author.Tests.{lt-ltb, le-ltb, ltb-true, ltb-false, le-leb, lt-leb}
-use lib.Dec.{ltb, leb}
+use lib.Dec.{ltb}
 use lib.ListN.{length, getD, take, drop, length-append, take-append-drop, List·getD-append}
 use lib.Seq.{take-suc, length-take-le}
 use Rattle.numbers.specs.declared.Order.{Order}
 use Rattle.numbers.specs.Laws.{Bytes}
-use Rattle.numbers.specs.Numbers.{number, front}
+use Rattle.numbers.specs.Numbers.{front}
 use Rattle.numbers.proofs.Laws.{number-below}
 use Rattle.frames.specs.Frames.{header, recLen}
 use Rattle.session.specs.declared.Standing.{Standing}
 use Rattle.session.specs.Session.{isStart}
 use Rattle.cutting.specs.Needed.{firstLength, longest, needed, cut}
-use Rattle.cutting.specs.Walk.{Heard, Turned, Machine, Walked, Waits, Stops, judged, took, walked, cutting}
+use Rattle.cutting.specs.Walk.{Heard, Turned, Machine, Walked, Waits, judged, took, walked, cutting}
 use Rattle.cutting.specs.Laws.{CutWaits, CutAlone, CutHeard, CutLong, NeededMost}
 use Rattle.cutting.proofs.Walks.{walked-append, walked-stops}
 

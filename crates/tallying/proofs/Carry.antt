@@ -24,11 +24,11 @@ use Rattle.walking.specs.declared.Fate.{Fate}
 use Rattle.walking.specs.declared.Fate.the-variants.{Going, Stopped}
 use Rattle.walking.specs.declared.Stage.{Stage}
 use Rattle.walking.specs.Walking as walking
-use Rattle.walking.specs.Walking.{delivering, stageStanding, stageProgress, rest, endsBy}
+use Rattle.walking.specs.Walking.{delivering, stageStanding, rest, endsBy}
 use Rattle.walking.specs.Lent.{pastCount, Walkable, Arrived}
 use Rattle.tallying.specs.declared.Stream.{Stream}
 use Rattle.tallying.specs.Following.{Reached, reached, hearing, mostLength, Progress, progress, seen}
-use Rattle.tallying.specs.Following.{resumedBy, resumed, followed}
+use Rattle.tallying.specs.Following.{resumedBy, followed}
 use Rattle.tallying.specs.Lent.{aloneHouse, aloneRoom, streamCore, streamHouse, progressOf, staged, keptFrom}
 use Rattle.tallying.specs.Lent.{Right, Followed}
 use Rattle.tallying.proofs.Alone.{alone-shaped, Like, stream-alike, lendable}
@@ -179,16 +179,17 @@ module _ (s : Stream) (buf : List ℕ) (got : ℕ) (right : Right s buf) (goes :
     size = ap length are ∙ length-take-le end buf there
 
     pub walk-begins : {room : Room} → room ≡ aloneRoom → {stage : Stage} → stage ≡ staged s
-        → Walkable room mostLength (s .keys) (s .counts) (s .parts) stage bytes
-    walk-begins seen is =
-        rw (seen, is)
-        (record {
-          takes = omega arith;
-          lendable =
-              lendable (streamCore s) (s .accepted) shape (right .fine);
-          within = omega arith;
-          countable = omega (arith, size, few);
-        })
+        → Walkable room mostLength (s .keys) (s .counts) (s .parts) stage bytes × (stage .more ≡ true)
+    walk-begins sees is =
+        rw (sees, is) (
+          record {
+            takes = omega arith;
+            lendable = lendable (streamCore s) (s .accepted) shape (right .fine);
+            within = omega arith;
+            countable = omega (arith, size, few);
+          },
+          refl,
+        )
 
     -- all bytes of the chunk, behind those that were held
     all : seen (walked hearing (Waits (reached (streamHouse s) (s .accepted)) []) bytes)

@@ -1,14 +1,14 @@
 -- The statements of specs/Laws.antt, proved.
 -- Assumes nothing.
 use mathlib.Core.Path.{_≡_, refl, ap, sym, _∙_}
-use mathlib.Core.List.{List, [], _∷_, _++_}
+use mathlib.Core.List.{List, [], _∷_}
 use Prim.Native.Nat.{ℕ}
 use Rattle.cutting.specs.Walk.{Walked, Waits, Stops, walked}
 use Rattle.cutting.proofs.Walks.{walked-append, walked-stops}
 use Rattle.house.specs.House.{rowCount, fresh}
 use Rattle.house.specs.Calls.{openSlot}
 use Rattle.walking.specs.declared.Stop.{Stop}
-use Rattle.tallying.specs.Following.{Reached, reached, hearing, Progress, seen, resumed, followed, begun}
+use Rattle.tallying.specs.Following.{Reached, reached, hearing, Progress, seen, resumed, followed}
 use Rattle.tallying.specs.Text.{ended}
 use Rattle.tallying.specs.Laws.{FollowedChunks, joined, followedAll, TallyChunks}
 

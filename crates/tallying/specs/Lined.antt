@@ -9,7 +9,6 @@ use Prim.Native.Nat.{ℕ, _*_, _≤_}
 use lib.ListN.{length}
 use Rattle.numbers.specs.Numbers.{over}
 use Rattle.house.specs.declared.House.{House}
-use Rattle.house.specs.House.{rowCount}
 use Rattle.tally_lines.specs.Writing.{mostLine}
 use Rattle.tallying.specs.Text.{rowLines}
 

@@ -1,14 +1,13 @@
 -- `tallying::chunks::follow_on` meets its contract: the walk goes over the held bytes and the chunk behind them.
 -- Assumes nothing.
-use mathlib.Core.Path.{_≡_, ap}
-use Prim.Native.Nat.{ℕ, _+_, _-_}
+use mathlib.Core.Path.{_≡_}
+use Prim.Native.Nat.{_+_, _-_}
 use native.Mathlib.Omega.{arith}
-use lib.ListN.{length, take}
+use lib.ListN.{length}
 use denote.Ref.{now}
 use borrow.Author.Needs.{needs}
 use Rattle.numbers.specs.Laws.{Bytes}
 use Rattle.numbers.proofs.Laws.{part-bytes}
-use Rattle.walking.specs.declared.Stage.{Stage}
 use Rattle.tallying.proofs.Carry.{front-part, walk-begins, walk-ends, chunk-told}
 use Rattle.tallying.proofs.chunks.follow_on.Statement.{statement}
 use Rattle.tallying.proofs.chunks.follow_on.Tie as tie
@@ -42,12 +41,10 @@ range c k = omega (arith, known c .slice-known .given k)
 walk-requires : tie.Need-walk-requires
 walk-requires c κs =
     let from = c .before .before in
-    let s = start from in (
-      walk-begins (s .args .s) (now (s .args .buf)) (s .args .got) (s .pre .0) (s .pre .1) (s .pre .2) (s .pre .3)
-          (long s) (paired s) (cells s) _ (front-part (s .args .s .held + s .args .got) (now (s .args .buf)))
-          (from .before .alone .ensures) (from .stage-of .ensures),
-      ap (λ (x : Stage). x .more) (from .stage-of .ensures),
-    )
+    let s = start from in
+    walk-begins (s .args .s) (now (s .args .buf)) (s .args .got) (s .pre .0) (s .pre .1) (s .pre .2) (s .pre .3)
+    (long s) (paired s) (cells s) _ (front-part (s .args .s .held + s .args .got) (now (s .args .buf)))
+    (from .before .alone .ensures) (from .stage-of .ensures)
 
 keep-requires : tie.Need-keep-requires
 keep-requires c κs =
