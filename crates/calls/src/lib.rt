@@ -1,7 +1,5 @@
 // The calls: document 01, "The house, its slots and its rows", Calls, each with its order of checks. A refusal gives
 // the house back as it came: every call takes a house by value, tests its soundness and answers, whatever is handed in.
-mod reports;
-
 use answers::Answer;
 use house::Answered;
 use house::Figures;
@@ -10,9 +8,6 @@ use house::Room;
 use house::Slot;
 use judging::judge_lent;
 use lent::settle_lent;
-pub use reports::judge_report;
-pub use reports::list_rows;
-pub use reports::report;
 use session::Session;
 use session::Verdict;
 use settling::settle;
@@ -42,19 +37,19 @@ pub fn open_slot(house: House, slot: u32, floor: u32) -> Answered
     if !told.sound {
         return answer_with(Answer::NotSound, house);
     }
-    if 16 <= slot {
+    let i = slot as usize;
+    if House::SLOTS <= i {
         return answer_with(Answer::NoSuchSlot, house);
     }
-    if 1024 < floor {
+    if House::ROWS < floor as usize {
         return answer_with(Answer::FloorTooHigh, house);
     }
     let mut h = house;
-    let i = slot as usize;
     let s = h.slots[i];
     if s.taken {
         return answer_with(Answer::SlotTaken, h);
     }
-    let free = 1024 - h.used as u32;
+    let free = (House::ROWS - h.used) as u32;
     if free - told.promised < floor {
         return answer_with(Answer::NoRoom, h);
     }
@@ -68,7 +63,7 @@ pub fn figures(house: House) -> Figures
 {
     let told = soundness_of(house);
     if told.sound {
-        let free = 1024 - house.used as u32;
+        let free = (House::ROWS - house.used) as u32;
         return Figures {
             answer: Answer::Done,
             free,
@@ -89,11 +84,11 @@ pub fn close_slot(house: House, slot: u32) -> Answered
     if !is_sound(house) {
         return answer_with(Answer::NotSound, house);
     }
-    if 16 <= slot {
+    let i = slot as usize;
+    if House::SLOTS <= i {
         return answer_with(Answer::NoSuchSlot, house);
     }
     let mut h = house;
-    let i = slot as usize;
     let s = h.slots[i];
     if !s.taken {
         return answer_with(Answer::SlotClosed, h);
@@ -118,10 +113,10 @@ pub fn deliver(house: House, slot: u32, rec: &[u8]) -> Answered
     if !told.sound {
         return answer_with(Answer::NotSound, h);
     }
-    if 16 <= slot {
+    let i = slot as usize;
+    if House::SLOTS <= i {
         return answer_with(Answer::NoSuchSlot, h);
     }
-    let i = slot as usize;
     let s = h.slots[i];
     if !s.taken {
         return answer_with(Answer::SlotClosed, h);

@@ -19,7 +19,7 @@ use Rattle.session.specs.Verdicts.{verdictNumber}
 use Rattle.later_records.specs.Later.{judgeLater}
 
 -- the checks of a kind's own: 9, 11; 10, 14; 12
-abbrev pub ownChecks : Standing → List ℕ → Record → List Check
+abbrev pub ownChecks : Standing → List ℕ → Record → List (Check ℕ)
 ownChecks st parts (said.Pir p) =
     (not (held (partOf (p .head) (p .site)) parts) else 9) ∷ (ltb (st .opened) mostOpen else 11) ∷ []
 ownChecks st parts (said.Prr p) =
