@@ -1,9 +1,9 @@
 // The call report, over a slice of LENGTH rows. No report has more than 1,024 rows, so a longer one is as good as one of
 // 1,024: what is printed are the rows that were written to the slice.
-use calls::list_rows;
 use house::House;
 use house::Listing;
 use house::Row;
+use reports::list_rows;
 use script::Number;
 use script::no_call;
 use transcript::say;

@@ -7,9 +7,8 @@ use mathlib.Core.List.{List, [], _∷_}
 use Prim.Native.Nat.{ℕ}
 use lib.Dec.{eqb, leb}
 use lib.ListN.{length}
-use Rattle.prelude.specs.Choice.{_unless_then_}
 use Rattle.prelude.specs.Checks.{_else_, numberBy}
-use Rattle.prelude.proofs.Checks.{check-first}
+use Rattle.prelude.proofs.Checks.{choice-by, check-first}
 use Rattle.answers.specs.declared.Answer.{Answer}
 use Rattle.answers.specs.declared.Answer.the-variants as answer
 use Rattle.numbers.specs.declared.Order.{Order}
@@ -23,7 +22,6 @@ use Rattle.session.specs.declared.Standing.{Standing}
 use Rattle.session.specs.declared.Verdict.{Verdict}
 use Rattle.session.specs.declared.Verdict.the-variants.{Refused, Taken}
 use Rattle.session.specs.Verdicts.{stands, verdictNumber, byItself}
-use Rattle.session.proofs.Laws.{checked}
 use Rattle.first_record.specs.First.{inOrder, judgeIn, judgeOrdered, judgeFirst, orderTold, orderIn}
 use Rattle.first_record.specs.Laws.{isKnown, FirstNumber}
 
@@ -34,16 +32,16 @@ module _ (P : Verdict → Type 0) (refused : (a : Answer) → byItself a ≡ tru
       → P (judgeFirst st rec)
   unfolding judgeFirst judgeIn
   first-cases st rec taken =
-      checked P answer.NotOneRecord (leb header (length rec)) _ (refused answer.NotOneRecord refl) (λ _.
-      checked P answer.OutOfPlace (eqb (recTyp rec) 0 && eqb (recSub rec) 10) _ (refused answer.OutOfPlace refl) (λ _.
-      checked P answer.NotOneRecord (eqb (length rec) 6) _ (refused answer.NotOneRecord refl) (λ _.
+      choice-by P _ (leb header (length rec)) _ (refused answer.NotOneRecord refl) (λ _.
+      choice-by P _ (eqb (recTyp rec) 0 && eqb (recSub rec) 10) _ (refused answer.OutOfPlace refl) (λ _.
+      choice-by P _ (eqb (length rec) 6) _ (refused answer.NotOneRecord refl) (λ _.
       by-order (orderOf (byteOf far 0 (body rec))) refl)))
     where
       by-order : (o : Ordering) → orderOf (byteOf far 0 (body rec)) ≡ o → P (judgeOrdered st rec o)
       by-order ordering.Unknown told = refused answer.UnknownOrder refl
       by-order (ordering.Known order) told =
-          checked P answer.NotOneRecord (eqb (recLen order rec) 2) _ (refused answer.NotOneRecord refl) (λ _.
-          checked P answer.WrongVersion (eqb (byteOf far 1 (body rec)) 4) _ (refused answer.WrongVersion refl) (λ _.
+          choice-by P _ (eqb (recLen order rec) 2) _ (refused answer.NotOneRecord refl) (λ _.
+          choice-by P _ (eqb (byteOf far 1 (body rec)) 4) _ (refused answer.WrongVersion refl) (λ _.
           taken order (ap orderTold told)))
 
 -- ---- the order of checks, as a list

@@ -1,4 +1,4 @@
--- What is shown of a first record: statements only. Each is proved in proofs/Checks.antt under its name in small letters.
+-- What is shown of a first record: statements only, each proved in proofs/Checks.antt under its name in small letters.
 -- Assumes nothing.
 use mathlib.Core.Path.{_≡_}
 use mathlib.Core.Bool.{Bool, true, false, _&&_}

@@ -3,9 +3,9 @@ use answers::Answer;
 use numbers::Order;
 use numbers::Ordering;
 use order::Place;
+use session::Change;
 use session::Standing;
 use session::Verdict;
-use session::stands;
 ghost use mathlib.Core.Path.{_≡_};
 ghost use Prim.Native.Nat.{_≤_};
 ghost use lib.ListN.{length};
@@ -34,7 +34,7 @@ fn judge_in(st: Standing, rec: &[u8], order: Order) -> Verdict
     if rec[5] != 4 {
         return Verdict::Refused(Answer::WrongVersion);
     }
-    Verdict::Taken(stands(in_order(st, order)))
+    Verdict::Taken(Change::Stands(in_order(st, order)))
 }
 
 fn judge_ordered(st: Standing, rec: &[u8], ordering: Ordering) -> Verdict

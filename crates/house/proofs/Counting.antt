@@ -151,8 +151,8 @@ module _ (slot : ℕ) (t : Heard) (h : House) (p : Agree slot t h) where
       let zero-number : numberOf a ≡ 0 = ap numberOf (sym (own .answer)) ∙ done in
       absurd (false≢true (sym (own-number a (refusal a refl)) ∙ ap (λ (n : ℕ). eqb n 0) zero-number))
   agree-verdict rec (Taken change) o opened own refusal begins tells done =
-      agree-by rec (o .house) (changed (slotAt h slot .session) change .standing) (rowsAt h slot) opened (rw (own .stands) opened) (rw (own .stands))
-      (rw (own .stands)) (own .rows)
+      agree-by rec (o .house) (changed (slotAt h slot .session) change .standing) (rowsAt h slot) opened
+      (rw (own .stands) opened) (rw (own .stands)) (rw (own .stands)) (own .rows)
       (λ starts. (begins starts, refl))
       (λ further. (tells further .1, rw (tells further .0)))
   agree-verdict rec (Wanted change key) o opened own refusal begins tells done =
@@ -164,7 +164,8 @@ module _ (slot : ℕ) (t : Heard) (h : House) (p : Agree slot t h) where
           → Agree slot (following t rec) (o .house)
       go true is stands rows =
           agree-by rec (o .house) (changed (slotAt h slot .session) change .standing) (plus key (rowsAt h slot)) opened
-          (rw stands opened) (rw stands) (rw stands) rows (λ starts. absurd (begins starts)) (λ further. (tells further .1, rw (tells further .0)))
+          (rw stands opened) (rw stands) (rw stands) rows (λ starts. absurd (begins starts))
+          (λ further. (tells further .1, rw (tells further .0)))
       go false is stands rows = absurd (omega (arith, ap numberOf is, done))
 
   module _ (shape : Shaped h) (e : sound h ≡ true) where

@@ -1,6 +1,6 @@
 -- Laws of a delivery over lent rows, as the functions' proofs cite them.
 -- Assumes nothing.
-use mathlib.Core.Path.{_≡_, refl, ap, sym, _∙_}
+use mathlib.Core.Path.{_≡_, refl, ap, _∙_}
 use mathlib.Core.Bool.{Bool, true, false, _||_}
 use mathlib.Core.List.{List, [], _∷_}
 use Prim.Native.Nat.{ℕ, zero, suc, _+_, _-_, _≤_, _<_}
@@ -157,7 +157,8 @@ module _ (room : Room) (c : Core) (rec : List ℕ) where
       → judge (c .standing) (take (c .standing .opened) (c .parts)) rec ≡ Taken (stands next)
       → outcome answer.Done (c .keys) (c .counts) (c .used) next (c .parts) ≡ delivered room c rec
   delivered-stands next e =
-      settled-taken room c e (record { standing = next; parts = c .parts }) (sym (changed-stands (sessionOf c) next))
+      settled-taken room c e (record { standing = next; parts = c .parts })
+      (changed-stands (c .standing) (c .parts) refl)
       ∙ delivered-settled refl
 
 -- ---- what is noted for the next search

@@ -2,15 +2,14 @@
 -- first check that fails, and a record is accepted exactly if none does.
 -- Assumes nothing.
 use mathlib.Core.Path.{_≡_, refl, ap, sym, _∙_}
-use mathlib.Core.Bool.{Bool, true, false, not, _&&_, false≢true}
+use mathlib.Core.Bool.{Bool, true, false, _&&_, false≢true}
 use mathlib.Core.List.{List, [], _∷_, _++_, append-assoc}
-use Prim.Native.Nat.{ℕ, zero, suc, _-_, _≤_, _<_}
+use Prim.Native.Nat.{ℕ, zero, suc, _≤_, _<_}
 use native.Mathlib.Omega.{arith}
-use lib.Dec.{leb, ltb, eqb}
+use lib.Dec.{ltb, eqb}
 use lib.ListN.{length, drop, set, length-append}
-use Rattle.prelude.specs.Choice.{_unless_then_}
 use Rattle.prelude.specs.Checks.{_else_, numberBy}
-use Rattle.prelude.proofs.Checks.{check-first}
+use Rattle.prelude.proofs.Checks.{checked-by, checked-number}
 use Rattle.answers.specs.declared.Answer.{Answer}
 use Rattle.answers.specs.declared.Answer.the-variants as answer
 use Rattle.answers.specs.declared.Answer.the-variants.{Done}
@@ -26,11 +25,11 @@ use Rattle.house.specs.declared.Row.{Row}
 use Rattle.house.specs.declared.Reported.{Reported}
 use Rattle.house.specs.declared.Figures.{Figures}
 use Rattle.house.specs.declared.Answered.{Answered}
-use Rattle.house.specs.House.{rowCount, keysOf, free, promised, sound}
+use Rattle.house.specs.House.{keysOf, free, promised, sound}
 use Rattle.house.specs.Deliver.{granted, rowTaken, resultedIf, settled, delivered}
 use Rattle.house.specs.Calls.{slotAt, openSlot, closeSlot, roomOf, coreOf, settledTo, withOutcome, deliver}
-use Rattle.house.specs.Calls.{figuresOf}
-use Rattle.house.specs.Report.{rowAt, reported, listed, filled}
+use Rattle.house.specs.Calls.{refusal, openChecks, slotChecks, noFigures, figuresOf}
+use Rattle.house.specs.Report.{rowAt, unreported, reportChecks, reported, listed, filled}
 use Rattle.house.specs.History.{Open, Deliver, Report, Close, Figured}
 use Rattle.house.specs.Demands.{RefusedKeeps, RefusedWrites, ReportWrites, roomFor, Accepted}
 use Rattle.house.specs.Demands.{OpenNumber, DeliverNumber, ReportNumber, CloseNumber, FiguresNumber}
@@ -42,10 +41,6 @@ use Rattle.house.proofs.Reporting.{few}
 -- a call that is refused gives back the house that it came with
 abbrev Keeps : House → Answered → Type 0
 Keeps h o = (o .answer ≡ Done → ⊥) → o .house ≡ h
-
-chosen : (P : Answered → Type 0) (a : Answered) (t : Bool) (b : Answered) → P a → P b → P (a unless t then b)
-chosen P a true b x y = y
-chosen P a false b x y = x
 
 settled-keeps : (h : House) (slot : ℕ) (v : Verdict) → Keeps h (withOutcome h slot (settledTo h slot v))
 unfolding settled resultedIf rowTaken
@@ -62,37 +57,21 @@ settled-keeps h slot (Wanted change key) refused =
 pub refused-keeps : RefusedKeeps
 unfolding openSlot deliver delivered closeSlot
 refused-keeps h (Open slot floor) =
-    chosen (Keeps h) _ (sound h) _ (λ r. refl)
-    (chosen (Keeps h) _ (ltb slot slotCount) _ (λ r. refl)
-    (chosen (Keeps h) _ (leb floor rowCount) _ (λ r. refl)
-    (chosen (Keeps h) _ (not (slotAt h slot .taken)) _ (λ r. refl)
-    (chosen (Keeps h) _ (leb floor (free h - promised h)) _ (λ r. refl) (λ refused. absurd (refused refl))))))
+    checked-by (refusal h) (Keeps h) (openChecks h slot floor) _ (λ a r. refl) (λ e refused. absurd (refused refl))
 refused-keeps h (Deliver slot rec) =
-    chosen (Keeps h) _ (sound h) _ (λ r. refl)
-    (chosen (Keeps h) _ (ltb slot slotCount) _ (λ r. refl)
-    (chosen (Keeps h) _ (slotAt h slot .taken) _ (λ r. refl)
-    (settled-keeps h slot (verdictOn (slotAt h slot .session) rec))))
+    checked-by (refusal h) (Keeps h) (slotChecks h slot) _ (λ a r. refl)
+    (λ e. settled-keeps h slot (verdictOn (slotAt h slot .session) rec))
 refused-keeps h (Report slot long) = λ refused. refl
 refused-keeps h (Close slot) =
-    chosen (Keeps h) _ (sound h) _ (λ r. refl)
-    (chosen (Keeps h) _ (ltb slot slotCount) _ (λ r. refl)
-    (chosen (Keeps h) _ (slotAt h slot .taken) _ (λ r. refl) (λ refused. absurd (refused refl))))
+    checked-by (refusal h) (Keeps h) (slotChecks h slot) _ (λ a r. refl) (λ e refused. absurd (refused refl))
 refused-keeps h Figured = λ refused. refl
 
 -- a report that is refused has no rows
 reported-none : (h : House) (slot long : ℕ) → (reported h slot long .answer ≡ Done → ⊥) → reported h slot long .rows ≡ 0
 unfolding reported
 reported-none h slot long =
-    pick _ (sound h) _ (λ r. refl)
-    (pick _ (ltb slot slotCount) _ (λ r. refl)
-    (pick _ (slotAt h slot .taken) _ (λ r. refl)
-    (pick _ (leb (heldBy slot (keysOf h)) long) _ (λ r. refl) (λ refused. absurd (refused refl)))))
-  where
-    pick : (a : Reported) (t : Bool) (b : Reported) → ((a .answer ≡ Done → ⊥) → a .rows ≡ 0)
-        → ((b .answer ≡ Done → ⊥) → b .rows ≡ 0)
-        → ((a unless t then b) .answer ≡ Done → ⊥) → (a unless t then b) .rows ≡ 0
-    pick a true b x y = y
-    pick a false b x y = x
+    checked-by unreported (λ (r : Reported). (r .answer ≡ Done → ⊥) → r .rows ≡ 0) (reportChecks h slot long)
+    (record { answer = Done; rows = heldBy slot (keysOf h) }) (λ a r. refl) (λ e refused. absurd (refused refl))
 
 pub refused-writes : RefusedWrites
 refused-writes h slot out refused = rw (reported-none h slot (length out) refused)
@@ -135,11 +114,7 @@ number o = numberOf (o .answer)
 pub open-number : OpenNumber
 unfolding openSlot
 open-number h slot floor =
-    check-first number _ (sound h) _ 15 _ refl (λ fine.
-    check-first number _ (ltb slot slotCount) _ 1 _ refl (λ inside.
-    check-first number _ (leb floor rowCount) _ 16 _ refl (λ low.
-    check-first number _ (not (slotAt h slot .taken)) _ 2 _ refl (λ shut.
-    check-first number _ (leb floor (free h - promised h)) _ 13 0 refl (λ wide. refl)))))
+    checked-number (refusal h) numberOf number (λ a. refl) (openChecks h slot floor) [] _ (λ e. refl)
 
 -- a record by itself is never refused with 0
 pub own-number : (a : Answer) → byItself a ≡ true → eqb (numberOf a) 0 ≡ false
@@ -184,32 +159,27 @@ pub deliver-number : DeliverNumber
 unfolding deliver delivered
 deliver-number h slot rec =
     let s = slotAt h slot .session in
-    check-first number _ (sound h) _ 15 _ refl (λ fine.
-    check-first number _ (ltb slot slotCount) _ 1 _ refl (λ inside.
-    check-first number _ (slotAt h slot .taken) _ 2 _ refl (λ t.
-    settled-number h slot (verdictOn s rec) (λ a is. judged-refusal s rec a is))))
+    let v = verdictOn s rec in
+    checked-number (refusal h) numberOf number (λ a. refl) (slotChecks h slot)
+    ((eqb (verdictNumber v) 0 else verdictNumber v) ∷ (roomFor h slot v else 13) ∷ []) _
+    (λ e. settled-number h slot v (λ a is. judged-refusal s rec a is))
 
 pub report-number : ReportNumber
 unfolding reported
 report-number h slot long =
-    check-first given _ (sound h) _ 15 _ refl (λ fine.
-    check-first given _ (ltb slot slotCount) _ 1 _ refl (λ inside.
-    check-first given _ (slotAt h slot .taken) _ 2 _ refl (λ t.
-    check-first given _ (leb (heldBy slot (keysOf h)) long) _ 17 0 refl (λ wide. refl))))
-  where
-    given : Reported → ℕ
-    given r = numberOf (r .answer)
+    checked-number unreported numberOf (λ (r : Reported). numberOf (r .answer)) (λ a. refl) (reportChecks h slot long) []
+    (record { answer = Done; rows = heldBy slot (keysOf h) }) (λ e. refl)
 
 pub close-number : CloseNumber
 unfolding closeSlot
-close-number h slot =
-    check-first number _ (sound h) _ 15 _ refl (λ fine.
-    check-first number _ (ltb slot slotCount) _ 1 _ refl (λ inside.
-    check-first number _ (slotAt h slot .taken) _ 2 0 refl (λ t. refl)))
+close-number h slot = checked-number (refusal h) numberOf number (λ a. refl) (slotChecks h slot) [] _ (λ e. refl)
 
 pub figures-number : FiguresNumber
 unfolding figuresOf
-figures-number h = check-first (λ (f : Figures). numberOf (f .answer)) _ (sound h) _ 15 0 refl (λ fine. refl)
+figures-number h =
+    checked-number noFigures numberOf (λ (f : Figures). numberOf (f .answer)) (λ a. refl)
+    ((sound h else answer.NotSound) ∷ []) []
+    (record { answer = Done; free = free h; promised = promised h }) (λ e. refl)
 
 -- ---- what is accepted
 

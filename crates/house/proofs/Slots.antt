@@ -2,16 +2,17 @@
 -- over sequences of calls. Of a house, a slot is what stands in its place and its rows as a list.
 -- Assumes nothing.
 use mathlib.Core.Path.{_≡_, refl, sym, subst, _∙_}
-use mathlib.Core.Bool.{Bool, true, false, cond, not}
+use mathlib.Core.Bool.{Bool, true, false, cond}
 use mathlib.Core.List.{List, []}
 use Prim.Native.Nat.{ℕ, _-_, _%_, _<_}
 use native.Mathlib.Omega.{arith}
-use borrow.Author.Tests.{lt-ltb, ltb-true, eq-eqb, ne-eqb, eqb-false}
-use lib.Dec.{leb, ltb, eqb}
+use borrow.Author.Tests.{lt-ltb, eq-eqb, ne-eqb, eqb-false}
+use lib.Dec.{leb, eqb}
 use lib.ListN.{getD, set}
 use lib.Seq.{getD-set-same, getD-set-other}
 use Rattle.answers.specs.declared.Answer.{Answer}
 use Rattle.answers.specs.declared.Answer.the-variants.{Done, NoRoom}
+use Rattle.prelude.proofs.Checks.{checked-by}
 use Rattle.numbers.specs.Laws.{Bytes}
 use Rattle.rows.specs.Rows.{slotCount, slotSpan, rowKey, counted, keysUsed, countsUsed}
 use Rattle.rows.specs.Counts.{Count, plus, rowsBy}
@@ -30,12 +31,12 @@ use Rattle.house.specs.declared.Answered.{Answered}
 use Rattle.house.specs.House.{rowCount, noSlot, closedSlot, openedSlot, keysOf, countsOf, free, promised, sound}
 use Rattle.house.specs.Deliver.{granted, rowTaken, resultedIf, settled, delivered}
 use Rattle.house.specs.Calls.{slotAt, openSlot, closeSlot, roomOf, settledTo, withOutcome}
-use Rattle.house.specs.Calls.{deliver}
+use Rattle.house.specs.Calls.{refusal, openChecks, slotChecks, deliver}
 use Rattle.house.specs.History.{Call, Open, Deliver, Report, Close, Figured, after, names, Sent}
 use Rattle.house.specs.Laws.{Shaped}
 use Rattle.house.specs.Demands.{roomFor}
-use Rattle.house.proofs.Calling.{deliver-judged}
-use Rattle.house.proofs.Keeping.{unless-by, keys-kept, key-low, key-slot, room, withSession}
+use Rattle.house.proofs.Calling.{can-open, is-open, deliver-judged}
+use Rattle.house.proofs.Keeping.{keys-kept, key-low, key-slot, room, withSession}
 
 -- a slot's rows
 abbrev pub rowsAt : House → ℕ → List Count
@@ -163,45 +164,38 @@ module _ (h : House) (slot : ℕ) (shape : Shaped h) (e : sound h ≡ true) (ins
 -- ---- a call that names another slot
 
 module _ (slot : ℕ) (h : House) (shape : Shaped h) where
+  abbrev stays : Answered → Type 0
+  stays o = Alike slot (o .house) h
+
   else-open : (i floor : ℕ) → (slot ≡ i → ⊥) → Alike slot (openSlot h i floor .house) h
   unfolding openSlot
   else-open i floor other =
-      let same = alike-same slot h in
-      unless-by (λ (g : House). Alike slot g h) _ (sound h) _ same (λ fine.
-      unless-by (λ (g : House). Alike slot g h) _ (ltb i slotCount) _ same (λ inside.
-      unless-by (λ (g : House). Alike slot g h) _ (leb floor rowCount) _ same (λ low.
-      unless-by (λ (g : House). Alike slot g h) _ (not (slotAt h i .taken)) _ same (λ shut.
-      unless-by (λ (g : House). Alike slot g h) _ (leb floor (free h - promised h)) _ same (λ wide.
+      checked-by (refusal h) stays (openChecks h i floor) _ (λ a. alike-same slot h) (λ e.
       record {
-        stands = set-else h i shape (ltb-true i slotCount inside) (openedSlot floor) slot other;
+        stands = set-else h i shape (can-open h i floor e .inside) (openedSlot floor) slot other;
         rows = refl;
-      })))))
+      })
 
   else-close : (i : ℕ) → (slot ≡ i → ⊥) → Alike slot (closeSlot h i .house) h
   unfolding closeSlot
   else-close i other =
-      let same = alike-same slot h in
-      unless-by (λ (g : House). Alike slot g h) _ (sound h) _ same (λ fine.
-      unless-by (λ (g : House). Alike slot g h) _ (ltb i slotCount) _ same (λ within.
-      unless-by (λ (g : House). Alike slot g h) _ (slotAt h i .taken) _ same (λ t.
-      let inside = ltb-true i slotCount within in
+      checked-by (refusal h) stays (slotChecks h i) _ (λ a. alike-same slot h) (λ e.
+      let told = is-open h i e in
       record {
-        stands = set-else h i shape inside closedSlot slot other;
+        stands = set-else h i shape (told .inside) closedSlot slot other;
         rows =
-            dropped-rows-by slot (h .keys) (h .counts) (h .used) i (keys-kept h i shape fine inside)
+            dropped-rows-by slot (h .keys) (h .counts) (h .used) i (keys-kept h i shape (told .fine) (told .inside))
             ∙ rw (ne-eqb slot i other);
-      })))
+      })
 
   else-deliver : (i : ℕ) (rec : List ℕ) → Bytes rec → (slot ≡ i → ⊥) → Alike slot (deliver h i rec .house) h
   unfolding deliver delivered
   else-deliver i rec bytes other =
-      let same = alike-same slot h in
-      unless-by (λ (g : House). Alike slot g h) _ (sound h) _ same (λ fine.
-      unless-by (λ (g : House). Alike slot g h) _ (ltb i slotCount) _ same (λ within.
-      unless-by (λ (g : House). Alike slot g h) _ (slotAt h i .taken) _ same (λ t.
+      checked-by (refusal h) stays (slotChecks h i) _ (λ a. alike-same slot h) (λ e.
+      let told = is-open h i e in
       let s = slotAt h i .session in
-      else-settled h i shape fine (ltb-true i slotCount within) t (verdictOn s rec) (judged-key s rec bytes) slot
-      other)))
+      else-settled h i shape (told .fine) (told .inside) (told .opened) (verdictOn s rec) (judged-key s rec bytes) slot
+      other)
 
 pub else-alike : (slot : ℕ) (h : House) (c : Call) → Shaped h → Sent c → names slot c ≡ false
     → Alike slot (after h c) h

@@ -39,7 +39,7 @@ use Rattle.session.specs.Session.{partsRight, sound}
 use Rattle.session.specs.Verdicts.{stands, byItself}
 use Rattle.session.proofs.Laws.{parts-right, sound-right, sound-parts-told, sound-stands-told, stands-from}
 use Rattle.session.proofs.Laws.{stands-before, start-before, past-start}
-use Rattle.settling.specs.Settling.{changed, after, counts, Settles}
+use Rattle.settling.specs.Settling.{changed, after, countedParts, Settles}
 use Rattle.first_record.specs.First.{inOrder, judgeFirst, orderIn}
 use Rattle.first_record.proofs.Checks.{first-cases}
 use Rattle.later_records.specs.Later.{at, withPcr, withPart, withResult, opens, closes, judgeSaid, judgeLater}
@@ -107,7 +107,7 @@ judged-counts s rec =
     (λ p t new few. omega arith) (λ p t there few. refl) (λ t done. omega arith))
   where
     Counts : Verdict → Type 0
-    Counts v = after s v .standing .results ≡ s .standing .results + counts v
+    Counts v = after s v .standing .results ≡ s .standing .results + countedParts v
 
 pub judged-few : JudgedFew
 unfolding after changed

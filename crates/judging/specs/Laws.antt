@@ -1,5 +1,5 @@
--- What is shown of the judgement: statements only, the laws by which a house uses it, and never its text. Each is proved
--- in proofs/Laws.antt, under its name in small letters.
+-- What is shown of the judgement: statements only, the laws by which a house uses it, and never its text. Each is
+-- proved in proofs/Laws.antt, under its name in small letters.
 --
 --   KeyRight   that a key is one of a row: head at most 254, bin at most 32,767
 --   Begins     what a verdict on a first record tells, and Tells, on a later one
@@ -18,7 +18,7 @@ use Rattle.session.specs.declared.Verdict.{Verdict}
 use Rattle.session.specs.declared.Verdict.the-variants.{Refused, Taken, Wanted}
 use Rattle.session.specs.Session.{mostOpen, mostResults, pastParts, isStart, Follows, sound, LentParts}
 use Rattle.session.specs.Verdicts.{byItself}
-use Rattle.settling.specs.Settling.{changed, after, counts, Settles}
+use Rattle.settling.specs.Settling.{changed, after, countedParts, Settles}
 use Rattle.first_record.specs.First.{judgeFirst, orderIn}
 use Rattle.later_records.specs.Later.{judgeLater}
 use Rattle.later_records.specs.Results.{None, Part, resultOf}
@@ -50,7 +50,7 @@ JudgedSound = (s : Session) (rec : List ℕ) → Bytes rec → length (s .parts)
 -- its accepted PRRs are one more just where a part result was accepted
 abbrev pub JudgedCounts : Type 0
 JudgedCounts = (s : Session) (rec : List ℕ)
-    → after s (verdictOn s rec) .standing .results ≡ s .standing .results + counts (verdictOn s rec)
+    → after s (verdictOn s rec) .standing .results ≡ s .standing .results + countedParts (verdictOn s rec)
 
 -- .. and never more than 4,294,967,295
 abbrev pub JudgedFew : Type 0

@@ -10,7 +10,7 @@ use borrow.Author.Tests.{ltb-true, not-true}
 use lib.Dec.{eqb, ltb}
 use Rattle.prelude.specs.Choice.{_unless_then_}
 use Rattle.prelude.specs.Checks.{numberBy}
-use Rattle.prelude.proofs.Checks.{check-first}
+use Rattle.prelude.proofs.Checks.{choice-by, check-first}
 use Rattle.answers.specs.declared.Answer.{Answer}
 use Rattle.answers.specs.declared.Answer.the-variants as answer
 use Rattle.numbers.specs.declared.Order.{Order}
@@ -40,7 +40,7 @@ use Rattle.session.specs.declared.Verdict.{Verdict}
 use Rattle.session.specs.declared.Verdict.the-variants.{Refused, Taken, Wanted}
 use Rattle.session.specs.Session.{mostOpen, mostResults, partOf, keyOf, standsRight}
 use Rattle.session.specs.Verdicts.{stands, verdictNumber, byItself}
-use Rattle.session.proofs.Laws.{stands-from, checked}
+use Rattle.session.proofs.Laws.{stands-from}
 use Rattle.later_records.specs.Later.{at, withPcr, opens, closes, judgePir, judgePrr, judgeMrr, judgeSaid}
 use Rattle.later_records.specs.Later.{judgeLater}
 use Rattle.later_records.specs.Results.{None, resultIn}
@@ -66,8 +66,8 @@ module _ (P : Verdict → Type 0) (refused : (a : Answer) → byItself a ≡ tru
       → P (judgeLater st parts rec)
   unfolding judgeLater
   later-cases st parts rec accepted =
-      checked P answer.NotOneRecord (isRecord (st .order) rec) _ (refused answer.NotOneRecord refl) (λ _.
-      checked P answer.UnknownKind (known named) _ (refused answer.UnknownKind refl) (λ _.
+      choice-by P _ (isRecord (st .order) rec) _ (refused answer.NotOneRecord refl) (λ _.
+      choice-by P _ (known named) _ (refused answer.UnknownKind refl) (λ _.
       by-step (goes (st .place) named) (readBody (st .order) named (body rec)) refl refl))
     where
       named : Kind
@@ -95,16 +95,16 @@ module _ (P : Verdict → Type 0) (refused : (a : Answer) → byItself a ≡ tru
   unfolding judgePir judgePrr judgeMrr
   said-cases st parts (said.Pir p) taken pcr pir prr mrr =
       let part = partOf (p .head) (p .site) in
-      checked P answer.PartOpen (not (held part parts)) _ (refused answer.PartOpen refl) (λ new.
-      checked P answer.TooManyParts (ltb (st .opened) mostOpen) _ (refused answer.TooManyParts refl) (λ few.
+      choice-by P _ (not (held part parts)) _ (refused answer.PartOpen refl) (λ new.
+      choice-by P _ (ltb (st .opened) mostOpen) _ (refused answer.TooManyParts refl) (λ few.
       pir p refl (not-true (held part parts) new) (ltb-true (st .opened) mostOpen few)))
   said-cases st parts (said.Prr p) taken pcr pir prr mrr =
       let part = partOf (p .head) (p .site) in
-      checked P answer.PartNotOpen (held part parts) _ (refused answer.PartNotOpen refl) (λ there.
-      checked P answer.TooManyResults (ltb (st .results) mostResults) _ (refused answer.TooManyResults refl) (λ few.
+      choice-by P _ (held part parts) _ (refused answer.PartNotOpen refl) (λ there.
+      choice-by P _ (ltb (st .results) mostResults) _ (refused answer.TooManyResults refl) (λ few.
       prr p refl there (ltb-true (st .results) mostResults few)))
   said-cases st parts said.Mrr taken pcr pir prr mrr =
-      checked P answer.NotFinished (eqb (st .opened) 0 && st .pcr) _ (refused answer.NotFinished refl) (λ done.
+      choice-by P _ (eqb (st .opened) 0 && st .pcr) _ (refused answer.NotFinished refl) (λ done.
       mrr refl done)
   said-cases st parts (said.Pcr p) taken pcr pir prr mrr = pcr p refl
   said-cases st parts (said.Far f) taken pcr pir prr mrr = taken refl

@@ -1,5 +1,5 @@
--- Laws of a later record's judgement, as the functions' proofs cite them: one an answer, each under the tests before it,
--- in the order of the checks.
+-- Laws of a later record's judgement, as the functions' proofs cite them: one an answer, each under the tests before
+-- it, in the order of the checks.
 -- Assumes nothing.
 use mathlib.Core.Path.{_≡_}
 use mathlib.Core.Bool.{true, false}

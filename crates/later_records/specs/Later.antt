@@ -18,8 +18,8 @@ use Rattle.order.specs.declared.Place.{Place}
 use Rattle.order.specs.Order.{goes, inPlace, placeAfter}
 use Rattle.rising.specs.Rising.{rank, held}
 use Rattle.session.specs.declared.Standing.{Standing}
-use Rattle.session.specs.declared.PartChange.the-variants.{Opens, Closes}
 use Rattle.session.specs.declared.Change.{Change}
+use Rattle.session.specs.declared.Change.the-variants.{Opens, Closes}
 use Rattle.session.specs.declared.Verdict.{Verdict}
 use Rattle.session.specs.declared.Verdict.the-variants.{Refused, Taken, Wanted}
 use Rattle.session.specs.Session.{mostOpen, mostResults, partOf, keyOf}
@@ -49,10 +49,10 @@ withResult st =
 
 -- a part opens or closes at its rank
 abbrev pub opens : Standing → ℕ → ℕ → Change
-opens st at part = record { standing = withPart st; parts = Opens at part }
+opens st at part = Opens (withPart st) at part
 
 abbrev pub closes : Standing → ℕ → Change
-closes st at = record { standing = withResult st; parts = Closes at }
+closes st at = Closes (withResult st) at
 
 -- PIR opens (head, site): 9, 11
 unfoldable pub judgePir : Standing → List ℕ → ℕ → Verdict

@@ -1,4 +1,4 @@
--- What is shown of a later record: statements only. Each is proved in proofs/Checks.antt under its name in small letters.
+-- What is shown of a later record: statements only, each proved in proofs/Checks.antt under its name in small letters.
 -- Assumes nothing.
 use mathlib.Core.Path.{_≡_}
 use mathlib.Core.Bool.{true, not, _&&_}
@@ -19,7 +19,7 @@ use Rattle.session.specs.Verdicts.{verdictNumber}
 use Rattle.later_records.specs.Later.{judgeLater}
 
 -- the checks of a kind's own: 9, 11; 10, 14; 12
-abbrev pub ownChecks : Standing → List ℕ → Record → List Check
+abbrev pub ownChecks : Standing → List ℕ → Record → List (Check ℕ)
 ownChecks st parts (said.Pir p) =
     (not (held (partOf (p .head) (p .site)) parts) else 9) ∷ (ltb (st .opened) mostOpen else 11) ∷ []
 ownChecks st parts (said.Prr p) =

@@ -13,10 +13,8 @@ use order::next_place;
 use rising::holds;
 use rising::rank_of;
 use session::Change;
-use session::PartChange;
 use session::Standing;
 use session::Verdict;
-use session::stands;
 ghost use mathlib.Core.Path.{_≡_};
 ghost use Prim.Native.Nat.{_≤_, _<_, _+_, _*_};
 ghost use lib.ListN.{take};
@@ -66,10 +64,7 @@ fn judge_pir(st: Standing, parts: &[u64], part: u64) -> Verdict
     }
     let mut next = st;
     next.opened = opened + 1;
-    Verdict::Taken(Change {
-        standing: next,
-        parts: PartChange::Opens(rank, part),
-    })
+    Verdict::Taken(Change::Opens(next, rank, part))
 }
 
 fn judge_prr(st: Standing, parts: &[u64], part: u64, key: u32) -> Verdict
@@ -86,11 +81,7 @@ fn judge_prr(st: Standing, parts: &[u64], part: u64, key: u32) -> Verdict
         let mut next = st;
         next.opened = opened - 1;
         next.results = results + 1;
-        let change = Change {
-            standing: next,
-            parts: PartChange::Closes(rank),
-        };
-        return Verdict::Wanted(change, key);
+        return Verdict::Wanted(Change::Closes(next, rank), key);
     }
     Verdict::Refused(Answer::PartNotOpen)
 }
@@ -102,7 +93,7 @@ fn judge_mrr(st: Standing) -> Verdict
         return Verdict::Refused(Answer::NotFinished);
     }
     if st.pcr {
-        Verdict::Taken(stands(st))
+        Verdict::Taken(Change::Stands(st))
     } else {
         Verdict::Refused(Answer::NotFinished)
     }
@@ -121,7 +112,7 @@ fn judge_said(st: Standing, parts: &[u64], said: Record) -> Verdict
     requires { ⌜ LentParts st (now parts) ⌝ }
     ensures { λ r. ⌜ r ≡ judgeSaid st (take (st .opened) (now (parts .entry))) said ⌝ }
 {
-    let same = stands(st);
+    let same = Change::Stands(st);
     match said {
         Record::Pir(p) => judge_pir(st, parts, part_of(p.head, p.site)),
         Record::Prr(p) => judge_prr(
@@ -131,7 +122,7 @@ fn judge_said(st: Standing, parts: &[u64], said: Record) -> Verdict
             key_of(p.head, p.site, p.bin),
         ),
         Record::Mrr => judge_mrr(st),
-        Record::Pcr(_) => Verdict::Taken(stands(with_pcr(st))),
+        Record::Pcr(_) => Verdict::Taken(Change::Stands(with_pcr(st))),
         Record::Far(_) => Verdict::Taken(same),
         Record::Mir => Verdict::Taken(same),
         Record::Bin(_) => Verdict::Taken(same),

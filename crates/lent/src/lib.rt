@@ -4,6 +4,7 @@
 use answers::Answer;
 use house::Delivered;
 use house::Granting;
+use house::House;
 use house::Room;
 use judging::judge_lent;
 use rising::holds;
@@ -48,7 +49,7 @@ fn is_granted(keys: &[u64], used: usize, room: Room, at: usize, key: u64) -> boo
     if held_by(keys, used, slot) < floor {
         return true;
     }
-    others < 1024 - used
+    others < House::ROWS - used
 }
 
 // Where the guess for a key stands among 4,096 of them.
@@ -66,18 +67,18 @@ fn rank_in(guess: u16) -> usize
     guess as usize
 }
 
-// The rank of a key, looked for first where its guess says; a guess that was right is not written again. Fewer guesses, or
-// none, will do: then there is a search.
+// The rank of a key, looked for first where its guess says; a guess that was right is not written again. Fewer guesses,
+// or none, will do: then there is a search.
 fn find_row(keys: &[u64], used: usize, guesses: &mut [u16], cell: usize, key: u64) -> usize
     requires { ⌜ LentKeys (now keys) used ⌝ }
     ensures { λ r. ⌜ (r ≡ rank key (take used (now (keys .entry))))
         × (now (guesses .exit) ≡ set (now (guesses .entry)) cell r) ⌝ }
 {
     if guesses.len() <= cell {
-        return rank_among(keys, used, 1024, key);
+        return rank_among(keys, used, House::ROWS, key);
     }
     let guess = rank_in(guesses[cell]);
-    let at = rank_guessed(keys, used, 1024, guess, key);
+    let at = rank_guessed(keys, used, House::ROWS, guess, key);
     if at != guess {
         guesses[cell] = at as u16;
     }

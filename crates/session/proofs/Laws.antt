@@ -1,17 +1,15 @@
 -- Laws of a session by itself: what soundness tells, as the functions' proofs and the judgement's laws cite it.
 -- Assumes nothing.
 use mathlib.Core.Path.{_≡_, refl}
-use mathlib.Core.Bool.{Bool, true, false, _&&_}
-use mathlib.Core.List.{List}
+use mathlib.Core.Bool.{true, false, _&&_}
+use mathlib.Core.List.{List, [], _∷_}
 use Prim.Native.Nat.{ℕ, suc, _-_, _≤_, _<_}
 use native.Mathlib.Omega.{arith}
 use borrow.Author.Tests.{le-leb, lt-leb, leb-true, eq-eqb, ne-eqb}
 use lib.Dec.{eqb, leb, ltb}
 use lib.ListN.{length, getD, take}
 use lib.Seq.{getD-take, length-take-le}
-use Rattle.prelude.specs.Choice.{_unless_then_}
-use Rattle.prelude.proofs.Both.{both-left, both-right}
-use Rattle.answers.specs.declared.Answer.{Answer}
+use Rattle.prelude.proofs.All.{all-at}
 use Rattle.order.specs.declared.Place.{Place}
 use Rattle.order.specs.declared.Place.the-variants.{Start, Header, Lot, Setup, Body, Ended}
 use Rattle.order.specs.Laws.{before, ended}
@@ -19,9 +17,8 @@ use Rattle.rising.specs.Rising.{risingFrom, rising, allBelow}
 use Rattle.rising.proofs.Laws.{below-last}
 use Rattle.session.specs.declared.Session.{Session}
 use Rattle.session.specs.declared.Standing.{Standing}
-use Rattle.session.specs.declared.Verdict.{Verdict}
-use Rattle.session.specs.declared.Verdict.the-variants.{Refused}
-use Rattle.session.specs.Session.{mostOpen, pastParts, isStart, nothingYet, standsRight, partsRight, sound}
+use Rattle.session.specs.Session.{mostOpen, pastParts, isStart, nothingYet, standsRight, partsRight}
+use Rattle.session.specs.Session.{conditions, sound}
 use Rattle.session.specs.Laws.{BegunSound, SoundLent}
 
 -- ---- a sound session
@@ -92,14 +89,8 @@ parts-told : (opened : ℕ) (cells : List ℕ) → partsRight opened cells ≡ t
 unfolding partsRight
 parts-told opened cells e =
     let few = leb opened mostOpen in
-    let rises = rising (take opened cells) in
-    let below = allBelow pastParts (take opened cells) in
-    let rest = both-right few (rises && below) e in
-    record {
-      few = leb-true opened mostOpen (both-left few (rises && below) e);
-      rises = both-left rises below rest;
-      below = both-right rises below rest;
-    }
+    let at = all-at (few ∷ rising (take opened cells) ∷ allBelow pastParts (take opened cells) ∷ []) e in
+    record { few = leb-true opened mostOpen (at 0); rises = at 1; below = at 2 }
 
 pub parts-right : (opened : ℕ) (cells : List ℕ) → Parts opened cells → partsRight opened cells ≡ true
 unfolding partsRight
@@ -115,14 +106,11 @@ module _ (s : Session) where
   module _ (e : sound s ≡ true) where
     pub sound-parts-told : Parts (s .standing .opened) (s .parts)
     unfolding sound
-    sound-parts-told =
-        parts-told (s .standing .opened) (s .parts)
-        (both-left (partsRight (s .standing .opened) (s .parts)) (standsRight (s .standing .place) (s .standing)) e)
+    sound-parts-told = parts-told (s .standing .opened) (s .parts) (all-at (conditions s) e 0)
 
     pub sound-stands-told : standsRight (s .standing .place) (s .standing) ≡ true
     unfolding sound
-    sound-stands-told =
-        both-right (partsRight (s .standing .opened) (s .parts)) (standsRight (s .standing .place) (s .standing)) e
+    sound-stands-told = all-at (conditions s) e 1
 
 pub sound-lent : SoundLent
 sound-lent s long e =
@@ -169,10 +157,3 @@ past-start Lot h = refl
 past-start Setup h = refl
 past-start Body h = refl
 past-start Ended h = refl
-
--- ---- a check that may refuse
-
-pub checked : (P : Verdict → Type 0) (a : Answer) (test : Bool) (v : Verdict)
-    → P (Refused a) → (test ≡ true → P v) → P (Refused a unless test then v)
-checked P a true v r n = n refl
-checked P a false v r n = r

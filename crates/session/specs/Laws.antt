@@ -1,4 +1,5 @@
--- What is shown of a session by itself: statements only, each proved in proofs/Laws.antt under its name in small letters.
+-- What is shown of a session by itself: statements only, each proved in proofs/Laws.antt under its name in small
+-- letters.
 -- Assumes nothing.
 use mathlib.Core.Path.{_≡_}
 use mathlib.Core.Bool.{true}

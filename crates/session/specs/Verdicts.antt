@@ -10,13 +10,14 @@ use Rattle.answers.specs.declared.Answer.{Answer}
 use Rattle.answers.specs.declared.Answer.the-variants as answer
 use Rattle.answers.specs.Numbers.{numberOf}
 use Rattle.session.specs.declared.Standing.{Standing}
-use Rattle.session.specs.declared.PartChange.the-variants.{Same}
 use Rattle.session.specs.declared.Change.{Change}
+use Rattle.session.specs.declared.Change.the-variants.{Stands}
 use Rattle.session.specs.declared.Verdict.{Verdict}
 use Rattle.session.specs.declared.Verdict.the-variants.{Refused, Taken, Wanted}
 
+-- most records move the standing, if anything, and no part
 abbrev pub stands : Standing → Change
-stands st = record { standing = st; parts = Same }
+stands st = Stands st
 
 -- a part result that passes all these is still to be judged for room
 abbrev pub verdictNumber : Verdict → ℕ

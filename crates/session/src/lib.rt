@@ -1,5 +1,6 @@
 // A session: document 01, "The house, its slots and its rows", an open slot without its rows; and what a record may do
-// to one, as a verdict says it. Nothing here knows of a house: whether there is room (13) is judged elsewhere, and last.
+// to one, as a verdict says it. Nothing here knows of a house: whether there is room (13) is judged elsewhere, and
+// last.
 mod sound;
 
 use answers::Answer;
@@ -7,7 +8,7 @@ use numbers::Order;
 use order::Place;
 ghost use mathlib.Core.Path.{_≡_};
 ghost use Rattle.session.specs.Session.{isStart, begun};
-ghost use Rattle.session.specs.Verdicts.{stands, verdictNumber};
+ghost use Rattle.session.specs.Verdicts.{verdictNumber};
 pub use sound::is_sound;
 pub use sound::nothing_yet;
 pub use sound::parts_right;
@@ -28,18 +29,16 @@ pub struct Session {
     pub parts: [u64; 32],
 }
 
-// What becomes of the open parts: they stay, or one opens or closes at its rank among them.
-pub enum PartChange {
-    Same,
-    Opens(usize, u64),
-    Closes(usize),
-}
-
-// What an accepted record makes of a session. Those that judge and settle alone look into it: a house hands it back to
-// be settled, so that a kind with an effect of its own is no business of a house.
-pub struct Change {
-    pub standing: Standing,
-    pub parts: PartChange,
+// What an accepted record makes of a session: its standing after it, and what becomes of its open parts. Those that
+// judge and settle alone look into it: a house hands it back to be settled, so that a kind with an effect of its own is
+// no business of a house.
+pub enum Change {
+    // The parts stay.
+    Stands(Standing),
+    // A part opens, at its rank among the open ones.
+    Opens(Standing, usize, u64),
+    // The part at a rank closes.
+    Closes(Standing, usize),
 }
 
 // What a record does to a session.
@@ -63,16 +62,6 @@ pub fn is_start(place: Place) -> bool
         Place::Setup => false,
         Place::Body => false,
         Place::Ended => false,
-    }
-}
-
-// The change to a standing alone.
-pub fn stands(st: Standing) -> Change
-    ensures { λ r. ⌜ r ≡ stands st ⌝ }
-{
-    Change {
-        standing: st,
-        parts: PartChange::Same,
     }
 }
 

@@ -1,50 +1,44 @@
 -- Laws of a change and of a verdict, as the functions' proofs cite them: one a case.
 -- Assumes nothing.
-use mathlib.Core.Path.{_≡_, refl, subst}
+use mathlib.Core.Path.{_≡_, subst}
 use mathlib.Core.List.{List}
 use Prim.Native.Nat.{ℕ, _+_, _≤_, _<_}
 use Rattle.rising.specs.Rising.{insertAt, removeAt}
 use Rattle.answers.specs.declared.Answer.{Answer}
 use Rattle.session.specs.declared.Session.{Session}
 use Rattle.session.specs.declared.Standing.{Standing}
-use Rattle.session.specs.declared.PartChange.the-variants.{Same, Opens, Closes}
 use Rattle.session.specs.declared.Change.{Change}
+use Rattle.session.specs.declared.Change.the-variants.{Stands, Opens, Closes}
 use Rattle.session.specs.declared.Verdict.{Verdict}
 use Rattle.session.specs.declared.Verdict.the-variants.{Refused, Taken, Wanted}
 use Rattle.session.specs.Session.{mostOpen}
-use Rattle.session.specs.Verdicts.{stands}
-use Rattle.settling.specs.Settling.{lentSession, partsAfter, changed, after, PartWithin, Within, Settles}
+use Rattle.settling.specs.Settling.{lentSession, changed, after, Within, Settles}
 
--- ---- the parts
+-- ---- a change
 
-module _ (st : Standing) (cells : List ℕ) (change : Change) where
-  pub changed-same : change .parts ≡ Same → lentSession (change .standing) cells ≡ changed (lentSession st cells) change
+module _ (st : Standing) (cells : List ℕ) {change : Change} {next : Standing} where
+  pub changed-stands : change ≡ Stands next → lentSession next cells ≡ changed (lentSession st cells) change
   unfolding changed
-  changed-same e = rw e
+  changed-stands e = rw e
 
-  pub changed-opens : {rank part : ℕ} → change .parts ≡ Opens rank part → (next : List ℕ)
-      → next ≡ insertAt cells (st .opened) rank part
-      → lentSession (change .standing) next ≡ changed (lentSession st cells) change
+  pub changed-opens : {rank part : ℕ} → change ≡ Opens next rank part → (then : List ℕ)
+      → then ≡ insertAt cells (st .opened) rank part
+      → lentSession next then ≡ changed (lentSession st cells) change
   unfolding changed
-  changed-opens e next is = rw (e, is)
+  changed-opens e then is = rw (e, is)
 
-  pub changed-closes : {rank : ℕ} → change .parts ≡ Closes rank → (next : List ℕ)
-      → next ≡ removeAt cells (st .opened) rank 1
-      → lentSession (change .standing) next ≡ changed (lentSession st cells) change
+  pub changed-closes : {rank : ℕ} → change ≡ Closes next rank → (then : List ℕ)
+      → then ≡ removeAt cells (st .opened) rank 1
+      → lentSession next then ≡ changed (lentSession st cells) change
   unfolding changed
-  changed-closes e next is = rw (e, is)
+  changed-closes e then is = rw (e, is)
 
-module _ (opened : ℕ) (change : Change) (within : Within opened change) where
-  pub within-opens : {rank part : ℕ} → change .parts ≡ Opens rank part → (rank ≤ opened) × (opened < mostOpen)
-  within-opens e = subst (PartWithin opened) e within
+module _ (opened : ℕ) {change : Change} {next : Standing} (within : Within opened change) where
+  pub within-opens : {rank part : ℕ} → change ≡ Opens next rank part → (rank ≤ opened) × (opened < mostOpen)
+  within-opens e = subst (Within opened) e within
 
-  pub within-closes : {rank : ℕ} → change .parts ≡ Closes rank → rank + 1 ≤ opened
-  within-closes e = subst (PartWithin opened) e within
-
--- the change to a standing alone leaves the parts
-pub changed-stands : (s : Session) (st : Standing) → changed s (stands st) ≡ record { standing = st; parts = s .parts }
-unfolding changed
-changed-stands s st = refl
+  pub within-closes : {rank : ℕ} → change ≡ Closes next rank → rank + 1 ≤ opened
+  within-closes e = subst (Within opened) e within
 
 -- ---- a verdict
 

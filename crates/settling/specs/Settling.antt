@@ -1,18 +1,17 @@
 -- The session after a record. Document 01, Calls, Deliver, as one session sees it.
 --
---   changed   the session after a change: here alone stands what a change does
---   after     the session after a verdict; of a part result, if its row is granted
---   counts    how many part results a verdict counts, if its row is granted
---   Within    that a part opens and closes among the open ones; Settles, that a verdict's change, if any, is such
+--   changed        the session after a change: here alone stands what a change does
+--   after          the session after a verdict; of a part result, if its row is granted
+--   countedParts   how many parts a verdict counts, if its row is granted
+--   Within         that a part opens and closes among the open ones; Settles, that a verdict's change, if any, is such
 -- Assumes nothing.
 use mathlib.Core.List.{List}
 use Prim.Native.Nat.{ℕ, _+_, _≤_, _<_}
 use Rattle.rising.specs.Rising.{insertAt, removeAt}
 use Rattle.session.specs.declared.Session.{Session}
 use Rattle.session.specs.declared.Standing.{Standing}
-use Rattle.session.specs.declared.PartChange.{PartChange}
-use Rattle.session.specs.declared.PartChange.the-variants.{Same, Opens, Closes}
 use Rattle.session.specs.declared.Change.{Change}
+use Rattle.session.specs.declared.Change.the-variants.{Stands, Opens, Closes}
 use Rattle.session.specs.declared.Verdict.{Verdict}
 use Rattle.session.specs.declared.Verdict.the-variants.{Refused, Taken, Wanted}
 use Rattle.session.specs.Session.{mostOpen}
@@ -21,18 +20,12 @@ use Rattle.session.specs.Session.{mostOpen}
 abbrev pub lentSession : Standing → List ℕ → Session
 lentSession st cells = record { standing = st; parts = cells }
 
--- the cells of the parts, of which so many were open: PIR puts a part in at its rank, PRR takes it out
-abbrev pub partsAfter : List ℕ → ℕ → PartChange → List ℕ
-partsAfter cells opened Same = cells
-partsAfter cells opened (Opens rank part) = insertAt cells opened rank part
-partsAfter cells opened (Closes rank) = removeAt cells opened rank 1
-
+-- PIR puts a part in at its rank among the open ones, PRR takes it out
 unfoldable pub changed : Session → Change → Session
-changed s change =
-    record {
-      standing = change .standing;
-      parts = partsAfter (s .parts) (s .standing .opened) (change .parts);
-    }
+changed s (Stands st) = record { standing = st; parts = s .parts }
+changed s (Opens st rank part) =
+    record { standing = st; parts = insertAt (s .parts) (s .standing .opened) rank part }
+changed s (Closes st rank) = record { standing = st; parts = removeAt (s .parts) (s .standing .opened) rank 1 }
 
 -- a refusal changes nothing
 unfoldable pub after : Session → Verdict → Session
@@ -41,20 +34,17 @@ after s (Taken change) = changed s change
 after s (Wanted change key) = changed s change
 
 -- every accepted PRR counts as one part
-abbrev pub counts : Verdict → ℕ
-counts (Refused a) = 0
-counts (Taken change) = 0
-counts (Wanted change key) = 1
+abbrev pub countedParts : Verdict → ℕ
+countedParts (Refused a) = 0
+countedParts (Taken change) = 0
+countedParts (Wanted change key) = 1
 
 -- ---- what may be settled
 
-abbrev pub PartWithin : ℕ → PartChange → Type 0
-PartWithin opened Same = Unit
-PartWithin opened (Opens rank part) = (rank ≤ opened) × (opened < mostOpen)
-PartWithin opened (Closes rank) = rank + 1 ≤ opened
-
 abbrev pub Within : ℕ → Change → Type 0
-Within opened change = PartWithin opened (change .parts)
+Within opened (Stands st) = Unit
+Within opened (Opens st rank part) = (rank ≤ opened) × (opened < mostOpen)
+Within opened (Closes st rank) = rank + 1 ≤ opened
 
 abbrev pub Settles : ℕ → Verdict → Type 0
 Settles opened (Refused a) = Unit

@@ -3,7 +3,6 @@
 use rising::insert;
 use rising::remove;
 use session::Change;
-use session::PartChange;
 use session::Session;
 use session::Standing;
 use session::Verdict;
@@ -18,15 +17,13 @@ pub fn settle_parts(st: Standing, parts: &mut [u64], change: Change) -> Standing
     ensures { λ r. ⌜ lentSession r (now (parts .exit)) ≡ changed (lentSession st (now (parts .entry))) change ⌝ }
 {
     let opened = st.opened;
-    let next = change.standing;
-    let moved = change.parts;
-    match moved {
-        PartChange::Same => next,
-        PartChange::Opens(rank, part) => {
+    match change {
+        Change::Stands(next) => next,
+        Change::Opens(next, rank, part) => {
             insert(parts, opened, rank, part);
             next
         }
-        PartChange::Closes(rank) => {
+        Change::Closes(next, rank) => {
             remove(parts, opened, rank, 1);
             next
         }

@@ -26,8 +26,8 @@ fn ranged(n: u32) -> u32
 fn slot_sound<'a>(
     i: usize,
     s: Slot,
-    keys: &'a [u64; 1024],
-    counts: &'a [u64; 1024],
+    keys: &'a [u64; House::ROWS],
+    counts: &'a [u64; House::ROWS],
     used: usize,
 ) -> bool
     requires { ⌜ (i < 16) × Lent (now keys) (now counts) used ⌝ }
@@ -41,7 +41,7 @@ fn slot_sound<'a>(
         }
         return session::nothing_yet(st);
     }
-    if 1024 < s.floor {
+    if House::ROWS < s.floor as usize {
         return false;
     }
     if !session::is_sound(session) {
@@ -54,14 +54,14 @@ fn slot_sound<'a>(
 struct SlotsTold {
     sound: bool,
     promised: u64,
-    taken: [bool; 16],
+    taken: [bool; House::SLOTS],
 }
 
 // One pass over the slots, and one copy of them. And that there are sixteen, which the array's type alone says.
 fn slots_told<'a>(
-    slots: [Slot; 16],
-    keys: &'a [u64; 1024],
-    counts: &'a [u64; 1024],
+    slots: [Slot; House::SLOTS],
+    keys: &'a [u64; House::ROWS],
+    counts: &'a [u64; House::ROWS],
     used: usize,
 ) -> SlotsTold
     requires { ⌜ Lent (now keys) (now counts) used ⌝ }
@@ -71,9 +71,9 @@ fn slots_told<'a>(
 {
     let mut sound = true;
     let mut promised: u64 = 0;
-    let mut taken = [false; 16];
+    let mut taken = [false; House::SLOTS];
     let mut i: usize = 0;
-    while i < 16 {
+    while i < House::SLOTS {
         let s = slots[i];
         if !slot_sound(i, s, keys, counts, used) {
             sound = false;
@@ -90,7 +90,7 @@ fn slots_told<'a>(
 }
 
 // The rows in use fit and rise.
-fn rows_rise<'a>(keys: &'a [u64; 1024], counts: &'a [u64; 1024], used: usize) -> bool
+fn rows_rise<'a>(keys: &'a [u64; House::ROWS], counts: &'a [u64; House::ROWS], used: usize) -> bool
     requires { ⌜ (length (now keys) ≡ 1024) × (length (now counts) ≡ 1024) × (used ≤ 1024) ⌝ }
     ensures { λ r. ⌜ r
         ≡ (rowsFit (take used (now (keys .entry))) (take used (now (counts .entry)))
@@ -114,16 +114,16 @@ fn unsound() -> Soundness
 // What a test of a house tells whose rows are lent: a call that goes on with the house copies no row to test it, and
 // what is promised is summed once. And that there are sixteen slots.
 pub fn soundness_lent<'a>(
-    slots: [Slot; 16],
-    keys: &'a [u64; 1024],
-    counts: &'a [u64; 1024],
+    slots: [Slot; House::SLOTS],
+    keys: &'a [u64; House::ROWS],
+    counts: &'a [u64; House::ROWS],
     used: usize,
 ) -> Soundness
     requires { ⌜ (length (now keys) ≡ 1024) × (length (now counts) ≡ 1024) ⌝ }
     ensures { λ r. ⌜ (r ≡ soundness (houseOf (now (keys .entry)) (now (counts .entry)) used slots))
         × (length slots ≡ 16) ⌝ }
 {
-    if 1024 < used {
+    if House::ROWS < used {
         return unsound();
     }
     if !rows_rise(keys, counts, used) {
@@ -138,7 +138,7 @@ pub fn soundness_lent<'a>(
         return unsound();
     }
     let promised = told.promised;
-    let free = 1024 - used;
+    let free = House::ROWS - used;
     if (free as u64) < promised {
         return unsound();
     }

@@ -1,10 +1,10 @@
 // What is written at the end of a stream: document 01, "Tally program".
 use crate::Stream;
-use calls::list_rows;
 use first_record::judge_first;
 use house::House;
 use house::Slot;
 use order::Place;
+use reports::list_rows;
 use session::Session;
 use session::is_start;
 use session::verdict_number;

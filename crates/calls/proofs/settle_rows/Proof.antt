@@ -1,5 +1,5 @@
--- `calls::settle_rows` meets its contract: an open slot of a sound house lends its session and all rows, and
--- takes them back.
+-- `calls::settle_rows` meets its contract: an open slot of a sound house lends its session and all rows, and takes them
+-- back.
 -- Assumes nothing.
 use mathlib.Core.Path.{_≡_, _∙_}
 use Prim.Native.Nat.{_-_}
@@ -25,7 +25,7 @@ long c = search needs
 -- what the slot sees of the house, once its own unfilled rows are known
 module _ (roomy : tie.After-unfilled-of) where
   abbrev start : tie.Start
-  start = roomy .before .before .before
+  start = roomy .before .before .before .before
 
   seen : record {
     slot = start .args .i;
@@ -34,36 +34,38 @@ module _ (roomy : tie.After-unfilled-of) where
   }
       ≡ roomOf (start .args .house) (start .args .i)
   seen =
-      room-is (start .args .house .slots) (keysOf (start .args .house)) (start .args .i) (start .args .s) (start .pre .2)
-      (start .args .owed) (roomy .unfilled-of .result) (start .pre .5) (roomy .unfilled-of .ensures)
+      room-is (start .args .house .slots) (keysOf (start .args .house)) (start .args .i) (start .args .s)
+      (start .pre .is) (start .args .owed) (roomy .unfilled-of .result) (start .pre .owes) (roomy .unfilled-of .ensures)
 
 unfilled-of-requires : tie.Need-unfilled-of-requires
 unfilled-of-requires c κs =
-    let start = c .before .before in
-    (start .pre .1, lent-keys _ _ _ (told-lent (start .args .house) (start .pre .0) (long start) (paired start)))
+    let start = c .before .before .before in
+    let lent = told-lent (start .args .house) (start .pre .sound) (long start) (paired start) in
+    (start .pre .inside, lent-keys _ _ _ lent)
 
-sub-t21 : tie.Need-sub-t21
-sub-t21 c =
+sub-t22 : tie.Need-sub-t22
+sub-t22 c =
     let begun = start c in
-    own-within (begun .args .house .slots) (keysOf (begun .args .house)) (begun .args .i) _ (begun .pre .2) _ _
-    (begun .pre .5) (c .unfilled-of .ensures) (omega (arith, begun .pre .4, begun .pre .1))
+    own-within (begun .args .house .slots) (keysOf (begun .args .house)) (begun .args .i) _ (begun .pre .is) _ _
+    (begun .pre .owes) (c .unfilled-of .ensures) (omega (arith, begun .pre .slots, begun .pre .inside))
 
 settle-lent-requires : tie.Need-settle-lent-requires
 settle-lent-requires c κs =
-    let roomy = c .before .before .before .before .before .before .before .before .before in
+    let roomy = c .before .before .before .before .before .before .before in
     let begun = start roomy in (
-      lent-to (begun .args .house) (begun .args .i) (begun .pre .2) (seen roomy) (begun .pre .0) (long begun)
-          (paired begun) (begun .pre .4) (begun .pre .1) (begun .pre .3) (cells begun),
-      begun .pre .6,
+      lent-to (begun .args .house) (begun .args .i) (begun .pre .is) (seen roomy) (begun .pre .sound) (long begun)
+          (paired begun) (begun .pre .slots) (begun .pre .inside) (begun .pre .taken) (cells begun),
+      begun .pre .fits,
     )
 
 returns : tie.Need-returns
 returns c =
-    let did = c .before .before .before .before .before .before in
-    let roomy = did .before .before .before .before .before .before .before .before .before .before in
+    let did = c .before .before .before .before .before .before .before in
+    let roomy = did .before .before .before .before .before .before .before .before in
     let begun = start roomy in
     c .answer-with .ensures
-    ∙ laid-back (begun .args .house) (begun .args .i) (begun .pre .2) (seen roomy) (begun .args .verdict) _ (did .settle-lent .ensures .0)
+    ∙ laid-back (begun .args .house) (begun .args .i) (begun .pre .is) (seen roomy) (begun .args .verdict) _
+    (did .settle-lent .ensures .0)
 
 -- ---- found by search
 
@@ -79,11 +81,11 @@ slice-aggregate-settle-lent-3 c = search needs
 slice-aggregate-settle-lent-4 : tie.Need-slice-aggregate-settle-lent-4
 slice-aggregate-settle-lent-4 c = search needs
 
-mul-t20 : tie.Need-mul-t20
-mul-t20 c = search needs
+mul-slots : tie.Need-mul-slots
+mul-slots c = search needs
 
-element-set-from-h : tie.Need-element-set-from-h
-element-set-from-h c = search needs
+array-set-from-slots : tie.Need-array-set-from-slots
+array-set-from-slots c = search needs
 
 answer-with-requires : tie.Need-answer-with-requires
 answer-with-requires c κs = search needs
@@ -93,13 +95,13 @@ settle-rows-spec =
     tie.close
     (tie.spec
     unfilled-of-requires
-    sub-t21
+    sub-t22
     slice-aggregate-settle-lent
     slice-aggregate-settle-lent-2
     slice-aggregate-settle-lent-3
     slice-aggregate-settle-lent-4
     settle-lent-requires
-    mul-t20
-    element-set-from-h
+    mul-slots
+    array-set-from-slots
     answer-with-requires
     returns)

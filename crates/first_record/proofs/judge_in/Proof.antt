@@ -3,6 +3,7 @@
 use mathlib.Core.Path.{ap, sym, _∙_}
 use borrow.Author.Needs.{needs}
 use Rattle.first_record.proofs.Laws.{in-length, in-version, in-taken}
+use Rattle.session.specs.declared.Standing.{Standing}
 use Rattle.session.specs.declared.Verdict.the-variants.{Taken}
 use Rattle.session.specs.Verdicts.{stands}
 use Rattle.first_record.proofs.judge_in.Statement.{statement}
@@ -18,9 +19,9 @@ returns-2 c =
 
 returns-3 : tie.Need-returns-3
 returns-3 c =
-    let two = c .before .before .before .before in
-    ap Taken (c .stands .ensures ∙ ap stands (c .before .in-order .ensures))
-    ∙ sym (in-taken _ _ _ _ (two .before .u2 .ensures) (two .if1 .left) (c .before .before .if2 .left))
+    let two = c .before .before .before in
+    ap (λ (st : Standing). Taken (stands st)) (c .in-order .ensures)
+    ∙ sym (in-taken _ _ _ _ (two .before .u2 .ensures) (two .if1 .left) (c .before .if2 .left))
 
 -- ---- found by search
 
@@ -33,10 +34,7 @@ shared-slice-read-if2 c = search needs
 in-order-requires : tie.Need-in-order-requires
 in-order-requires c κs = search needs
 
-stands-requires : tie.Need-stands-requires
-stands-requires c κs = search needs
-
 pub judge-in-spec : {M : Type 1} → statement M
 judge-in-spec =
     tie.close
-    (tie.spec u2-requires returns shared-slice-read-if2 returns-2 in-order-requires stands-requires returns-3)
+    (tie.spec u2-requires returns shared-slice-read-if2 returns-2 in-order-requires returns-3)

@@ -5,6 +5,7 @@ use Prim.Native.Nat.{ℕ}
 use lib.ListN.{take}
 use denote.Ref.{now}
 use borrow.Author.Needs.{needs}
+use Rattle.session.specs.declared.Standing.{Standing}
 use Rattle.session.specs.declared.Verdict.the-variants.{Taken}
 use Rattle.session.specs.Verdicts.{stands}
 use Rattle.later_records.specs.Later.{judgePir, judgePrr}
@@ -13,14 +14,14 @@ use Rattle.later_records.proofs.judge_said.Tie as tie
 
 returns : tie.Need-returns
 returns c =
-    let a = c .before .before .before .before .before .before .before .args in
+    let a = c .before .before .before .before .before .before .args in
     rw (c .before .before .before .said .given .1)
     (c .judge-pir .ensures
     ∙ ap (judgePir (a .st) (take (a .st .opened) (now (a .parts)))) (c .before .part-of .ensures))
 
 returns-2 : tie.Need-returns-2
 returns-2 c =
-    let a = c .before .before .before .before .before .before .before .before .args in
+    let a = c .before .before .before .before .before .before .before .args in
     let judged = judgePrr (a .st) (take (a .st .opened) (now (a .parts))) in
     rw (c .before .before .before .before .said2 .given .1)
     (c .judge-prr .ensures
@@ -32,24 +33,21 @@ returns-3 c = rw (c .before .enum-told .given .1) (c .judge-mrr .ensures)
 
 returns-4 : tie.Need-returns-4
 returns-4 c =
-    rw (c .before .before .enum-told2 .given .1) (ap Taken (c .stands2 .ensures ∙ ap stands (c .before .with-pcr .ensures)))
+    rw (c .before .enum-told2 .given .1) (ap (λ (st : Standing). Taken (stands st)) (c .with-pcr .ensures))
 
 returns-5 : tie.Need-returns-5
-returns-5 c = rw (c .enum-told3 .given .1) (ap Taken (c .before .before .stands .ensures))
+returns-5 c = rw (c .enum-told3 .given .1)
 
 returns-6 : tie.Need-returns-6
-returns-6 c = rw (c .enum-told4 .given .1) (ap Taken (c .before .before .stands .ensures))
+returns-6 c = rw (c .enum-told4 .given .1)
 
 returns-7 : tie.Need-returns-7
-returns-7 c = rw (c .enum-told5 .given .1) (ap Taken (c .before .before .stands .ensures))
+returns-7 c = rw (c .enum-told5 .given .1)
 
 returns-8 : tie.Need-returns-8
-returns-8 c = rw (c .enum-told6 .given .1) (ap Taken (c .before .before .stands .ensures))
+returns-8 c = rw (c .enum-told6 .given .1)
 
 -- ---- found by search
-
-stands-requires : tie.Need-stands-requires
-stands-requires c κs = search needs
 
 enum-known-said : tie.Need-enum-known-said
 enum-known-said c = search needs
@@ -84,9 +82,6 @@ enum-told-2 c = search needs
 with-pcr-requires : tie.Need-with-pcr-requires
 with-pcr-requires c κs = search needs
 
-stands-requires-2 : tie.Need-stands-requires-2
-stands-requires-2 c κs = search needs
-
 enum-told-3 : tie.Need-enum-told-3
 enum-told-3 c = search needs
 
@@ -103,7 +98,6 @@ pub judge-said-spec : {M : Type 1} → statement M
 judge-said-spec =
     tie.close
     (tie.spec
-    stands-requires
     enum-known-said
     part-of-requires
     judge-pir-requires
@@ -115,7 +109,6 @@ judge-said-spec =
     judge-mrr-requires
     enum-told-2
     with-pcr-requires
-    stands-requires-2
     enum-told-3
     enum-told-4
     enum-told-5

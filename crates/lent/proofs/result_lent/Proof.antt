@@ -24,7 +24,8 @@ note : (c : tie.After-take-row)
 note c =
     let a = start c .args in
     c .take-row .ensures .1
-    ∙ result-noted (a .room .slot) (take (a .used) (now (a .keys))) (a .key) (now (a .guesses)) (c .before .before .cell-of .ensures) (c .before .row-key .ensures)
+    ∙ result-noted (a .room .slot) (take (a .used) (now (a .keys))) (a .key) (now (a .guesses))
+    (c .before .before .cell-of .ensures) (c .before .row-key .ensures)
 
 settle-parts-requires : tie.Need-settle-parts-requires
 settle-parts-requires c κs =

@@ -49,6 +49,9 @@ returns-5 c =
 nothing-yet-requires : tie.Need-nothing-yet-requires
 nothing-yet-requires c κs = search needs
 
+cast-if3 : tie.Need-cast-if3
+cast-if3 c = search needs
+
 is-sound-requires : tie.Need-is-sound-requires
 is-sound-requires c κs = search needs
 
@@ -62,6 +65,7 @@ slot-sound-spec =
     returns
     nothing-yet-requires
     returns-2
+    cast-if3
     returns-3
     is-sound-requires
     returns-4

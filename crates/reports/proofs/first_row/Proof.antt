@@ -1,4 +1,4 @@
--- `calls::reports::first_row` meets its contract: where there is a row, the house is sound and the slot is one of its.
+-- `reports::first_row` meets its contract: where there is a row, the house is sound and the slot is one of its.
 -- Assumes nothing.
 use mathlib.Core.Path.{_≡_, sym, _∙_}
 use Prim.Native.Nat.{_<_}
@@ -8,8 +8,8 @@ use borrow.Author.Needs.{needs}
 use Rattle.house.specs.Report.{rowsOf}
 use Rattle.house.proofs.Calling.{told-within}
 use Rattle.house.proofs.Reporting.{told-rises, row-fine, row-there, rows-begin}
-use Rattle.calls.proofs.reports.first_row.Statement.{statement}
-use Rattle.calls.proofs.reports.first_row.Tie as tie
+use Rattle.reports.proofs.first_row.Statement.{statement}
+use Rattle.reports.proofs.first_row.Tie as tie
 
 long : (c : tie.Start) → length (c .args .house .keys) ≡ 1024
 long c = search needs

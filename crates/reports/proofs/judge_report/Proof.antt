@@ -8,8 +8,8 @@ use Rattle.house.specs.House.{sound}
 use Rattle.house.proofs.Reporting.{report-unsound, report-no-slot, report-closed, report-short, report-done}
 use Rattle.house.proofs.Calling.{told-within}
 use Rattle.house.proofs.Reporting.{told-rises}
-use Rattle.calls.proofs.reports.judge_report.Statement.{statement}
-use Rattle.calls.proofs.reports.judge_report.Tie as tie
+use Rattle.reports.proofs.judge_report.Statement.{statement}
+use Rattle.reports.proofs.judge_report.Tie as tie
 
 long : (c : tie.Start) → length (c .args .house .keys) ≡ 1024
 long c = search needs

@@ -1,4 +1,5 @@
-// The report of a slot: document 01, Calls, Report. The rows are written one after the other into a lent slice.
+// The report of a slot: document 01, Calls, Report. It is judged, its rows are laid one after the other into an array,
+// and `report` writes them into a lent slice.
 use answers::Answer;
 use house::House;
 use house::Listing;
@@ -10,7 +11,6 @@ use soundness::is_sound;
 ghost use mathlib.Core.Path.{_≡_};
 ghost use Prim.Native.Nat.{_≤_, _<_};
 ghost use lib.ListN.{length};
-ghost use Rattle.house.specs.House.{rowCount};
 ghost use Rattle.house.specs.Deliver.{pastCounts};
 ghost use Rattle.house.specs.Report.{keyedRow, rowAt, rowsOf, rowsFrom, reported, filled, noRows, listing};
 
@@ -24,14 +24,14 @@ pub fn judge_report(house: House, slot: u32, long: usize) -> Reported
             rows: 0,
         };
     }
-    if 16 <= slot {
+    let i = slot as usize;
+    if House::SLOTS <= i {
         return Reported {
             answer: Answer::NoSuchSlot,
             rows: 0,
         };
     }
     let h = house;
-    let i = slot as usize;
     let s = h.slots[i];
     if !s.taken {
         return Reported {
@@ -79,24 +79,7 @@ fn keyed_row(key: u64, count: u64) -> Row
     }
 }
 
-// Reports a slot. There is no branch: a refusal has no row to write.
-pub fn report(out: &mut [Row], house: House, slot: u32) -> Reported
-    ensures { λ r. ⌜ (r ≡ reported house slot (length (now (out .entry))))
-        × (now (out .exit) ≡ filled (rowAt house slot) (r .rows) (now (out .entry))) ⌝ }
-{
-    let j = judge_report(house, slot, out.len());
-    let from = first_row(house, slot, j.rows);
-    let h = house;
-    let mut i: usize = 0;
-    while i < j.rows {
-        let at = from + i;
-        out[i] = keyed_row(h.keys[at], h.counts[at]);
-        i = i + 1;
-    }
-    j
-}
-
-fn no_rows() -> [Row; 1024]
+fn no_rows() -> [Row; House::ROWS]
     ensures { λ r. ⌜ r ≡ noRows ⌝ }
 {
     let row = Row {
@@ -105,27 +88,38 @@ fn no_rows() -> [Row; 1024]
         bin: 0,
         count: 0,
     };
-    [row; 1024]
+    [row; House::ROWS]
 }
 
-// Lends the first `room` of 1,024 rows to `report`.
-fn lend_rows(house: House, slot: u32, room: usize) -> Listing
-    requires { ⌜ room ≤ rowCount ⌝ }
-    ensures { λ r. ⌜ r ≡ listing house slot room ⌝ }
-{
-    let mut rows = no_rows();
-    let reported = report(&mut rows[..room], house, slot);
-    Listing { reported, rows }
-}
-
-// A report by value, as a slice of `long` rows gets it. To lend a slice of row structs has to be proved by hand: here it
-// is done once for every caller.
+// A report by value, as a slice of `long` rows gets it. There is no branch: a refusal has no row to lay.
 pub fn list_rows(house: House, slot: u32, long: usize) -> Listing
     ensures { λ r. ⌜ r ≡ listing house slot long ⌝ }
 {
-    if long < 1024 {
-        lend_rows(house, slot, long)
-    } else {
-        lend_rows(house, slot, 1024)
+    let reported = judge_report(house, slot, long);
+    let n = reported.rows;
+    let from = first_row(house, slot, n);
+    let h = house;
+    let mut rows = no_rows();
+    let mut i: usize = 0;
+    while i < n {
+        let at = from + i;
+        rows[i] = keyed_row(h.keys[at], h.counts[at]);
+        i += 1;
     }
+    Listing { reported, rows }
+}
+
+// Reports a slot into a lent slice. Whatever touches a slice of row structs has to be proved by hand: so this only
+// copies what is listed.
+pub fn report(out: &mut [Row], house: House, slot: u32) -> Reported
+    ensures { λ r. ⌜ (r ≡ reported house slot (length (now (out .entry))))
+        × (now (out .exit) ≡ filled (rowAt house slot) (r .rows) (now (out .entry))) ⌝ }
+{
+    let list = list_rows(house, slot, out.len());
+    let mut i: usize = 0;
+    while i < list.reported.rows {
+        out[i] = list.rows[i];
+        i = i + 1;
+    }
+    list.reported
 }
