@@ -1,15 +1,15 @@
 // What is read of a body, field by field.
-use bodies::Bin;
-use bodies::Naming;
-use bodies::Optional;
-use bodies::Pcr;
 use bodies::Reading;
 use bodies::Record;
 use bodies::read_body;
+use count_bodies::Bin;
+use count_bodies::Pcr;
 use kinds::Kind;
 use numbers::Order;
 use transcript::say;
 use transcript::say_number;
+use values::Naming;
+use values::Optional;
 
 fn say_field(name: &[u8], n: u32) {
     say(name);

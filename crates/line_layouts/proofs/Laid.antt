@@ -15,7 +15,7 @@ use Rattle.numbers.specs.Numbers.{ordered, written, over}
 use Rattle.numbers.proofs.Laws.{length-written}
 use Rattle.output.specs.Placed.{Put}
 use Rattle.output.proofs.Laws.{length-part}
-use Rattle.bodies.specs.declared.Name.{Name}
+use Rattle.values.specs.declared.Name.{Name}
 use Rattle.line_layouts.specs.declared.Tag.{Tag}
 use Rattle.line_layouts.specs.declared.Tag.the-variants.{Pcr, Hbr, Sbr}
 use Rattle.line_layouts.specs.declared.Said.{Said}

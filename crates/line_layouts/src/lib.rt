@@ -5,8 +5,8 @@ pub mod laying;
 pub mod names;
 
 use answers::Answer;
-use bodies::Name;
 use numbers::Order;
+use values::Name;
 
 // The three count lines.
 pub enum Tag {

@@ -19,11 +19,12 @@ use Rattle.kinds.specs.Kinds.{kindOf}
 use Rattle.frames.specs.Frames.{recTyp, recSub, body, isRecord}
 use Rattle.fields.specs.Tables.{fields, fitsBody, pcr, bin}
 use Rattle.fields.proofs.Laws.{begun-whole}
-use Rattle.bodies.specs.declared.Optional.{Optional}
-use Rattle.bodies.specs.declared.Optional.the-variants as optional
-use Rattle.bodies.specs.Values.{passFailAt, nameAt}
-use Rattle.bodies.specs.declared.Pcr.{Pcr}
-use Rattle.bodies.specs.Bodies.{pcrOf, binOf, binValuesFit, readPcr, readBin, readBody}
+use Rattle.values.specs.declared.Optional.{Optional}
+use Rattle.values.specs.declared.Optional.the-variants as optional
+use Rattle.values.specs.Values.{passFailAt, nameAt}
+use Rattle.count_bodies.specs.declared.Pcr.{Pcr}
+use Rattle.count_bodies.specs.Counts.{pcrOf, binCountOf, binValuesFit}
+use Rattle.bodies.specs.Bodies.{readPcr, readBin, readBody}
 use Rattle.line_layouts.specs.declared.Said.{Said}
 use Rattle.line_layouts.specs.declared.Said.the-variants as said
 use Rattle.line_layouts.specs.declared.Field.{Field}
@@ -127,9 +128,9 @@ module _ (source : List ℕ) where
       }
 
   module _ (soft : Bool) (order : Order) (bytes : getD source 9 0 < 256) where
-    bin-within : fitsBody bin source ≡ true → AllWithin source (binLine (binOf soft order source))
+    bin-within : fitsBody bin source ≡ true → AllWithin source (binLine (binCountOf soft order source))
     bin-within fits =
-        let b = binOf soft order source in
+        let b = binCountOf soft order source in
         record {
           seven = refl;
           within =

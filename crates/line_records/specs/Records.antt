@@ -17,12 +17,12 @@ use Rattle.kinds.specs.declared.Kind.{Kind}
 use Rattle.kinds.specs.declared.Kind.the-variants as kind
 use Rattle.kinds.specs.Kinds.{kindOf}
 use Rattle.frames.specs.Frames.{recTyp, recSub, body, isRecord}
-use Rattle.bodies.specs.declared.Optional.{Optional}
-use Rattle.bodies.specs.declared.Optional.the-variants as optional
-use Rattle.bodies.specs.declared.Naming.{Naming}
-use Rattle.bodies.specs.declared.Naming.the-variants as naming
-use Rattle.bodies.specs.declared.Pcr.{Pcr}
-use Rattle.bodies.specs.declared.Bin.{Bin}
+use Rattle.values.specs.declared.Optional.{Optional}
+use Rattle.values.specs.declared.Optional.the-variants as optional
+use Rattle.values.specs.declared.Naming.{Naming}
+use Rattle.values.specs.declared.Naming.the-variants as naming
+use Rattle.count_bodies.specs.declared.Pcr.{Pcr}
+use Rattle.count_bodies.specs.declared.Bin.{Bin}
 use Rattle.bodies.specs.declared.Record.{Record}
 use Rattle.bodies.specs.declared.Record.the-variants as read
 use Rattle.bodies.specs.declared.Reading.{Reading}

@@ -1,12 +1,9 @@
 // A count record taken apart: document 01, "Record frame and kinds", PCR, HBR and SBR, and orders of checks, 3, 6, 7.
 use answers::Answer;
-use bodies::Bin;
-use bodies::Name;
-use bodies::Naming;
-use bodies::Optional;
-use bodies::Pcr;
 use bodies::Reading;
 use bodies::Record;
+use count_bodies::Bin;
+use count_bodies::Pcr;
 use kinds::Kind;
 use line_layouts::Field;
 use line_layouts::Judged;
@@ -16,6 +13,9 @@ use line_layouts::Tag;
 use line_layouts::judging::refused_line;
 use line_layouts::judging::said_line;
 use numbers::Order;
+use values::Name;
+use values::Naming;
+use values::Optional;
 ghost use mathlib.Core.Path.{_≡_};
 ghost use Rattle.line_records.specs.Records.{siteSaid, countSaid, letterSaid, nameSaid, pcrLine, binTag, binLine};
 ghost use Rattle.line_records.specs.Records.{ofRecord, ofReading, isCount, judged};

@@ -1,6 +1,5 @@
 // The fields of a line, one piece of text each.
 use super::Piece;
-use bodies::Name;
 use digits::Numeral;
 use line_layouts::Column;
 use line_layouts::Field;
@@ -13,6 +12,7 @@ use line_layouts::columns::column_at;
 use line_layouts::columns::column_count;
 use line_layouts::laying::is_name;
 use line_layouts::names::part_allowed;
+use values::Name;
 ghost use mathlib.Core.Path.{_≡_};
 ghost use mathlib.Core.Bool.{true};
 ghost use Prim.Native.Nat.{_+_, _≤_, min};

@@ -24,8 +24,9 @@ use Rattle.kinds.specs.Kinds.{kindOf}
 use Rattle.frames.specs.Frames.{recTyp, recSub, body}
 use Rattle.fields.specs.Tables.{fields, fitsBody, pcr, bin}
 use Rattle.fields.proofs.Laws.{begun-whole}
-use Rattle.bodies.specs.Values.{countAt, passFailAt, nameAt, passFailFits}
-use Rattle.bodies.specs.Bodies.{pcrOf, binOf, binValuesFit, readPcr, readBin, readBody}
+use Rattle.values.specs.Values.{countAt, passFailAt, nameAt, passFailFits}
+use Rattle.count_bodies.specs.Counts.{pcrOf, binCountOf, binValuesFit}
+use Rattle.bodies.specs.Bodies.{readPcr, readBin, readBody}
 use Rattle.output.proofs.Laws.{length-part}
 use Rattle.line_layouts.specs.declared.Form.the-variants.{U1, U4, C1, Cn}
 use Rattle.line_layouts.specs.declared.Judged.{Judged}
@@ -201,8 +202,8 @@ module _ (order : Order) (b : List ℕ) (bytes : Bytes b) where
       )
 
   bin-fits : (soft : Bool) → fitsBody bin b ≡ true → binValuesFit order b ≡ true
-      → each entryAllowed (meaningOf b (binLine (binOf soft order b)) .entries) ≡ true
-      → Fitting (meaningOf b (binLine (binOf soft order b)))
+      → each entryAllowed (meaningOf b (binLine (binCountOf soft order b)) .entries) ≡ true
+      → Fitting (meaningOf b (binLine (binCountOf soft order b)))
   bin-fits true fits values ok = bin-entries fits values ok
   bin-fits false fits values ok = bin-entries fits values ok
 

@@ -19,8 +19,9 @@ use Rattle.kinds.proofs.Laws.{each-pair-its-kind}
 use Rattle.frames.specs.Frames.{recTyp, recSub, body, isRecord}
 use Rattle.frames.proofs.Laws.{record-framed}
 use Rattle.fields.specs.Tables.{fitsBody, pcr, bin}
-use Rattle.bodies.specs.Values.{countAt, passFailAt, nameAt}
-use Rattle.bodies.specs.Bodies.{readPcr, readBin, readBody, binValuesFit}
+use Rattle.values.specs.Values.{countAt, passFailAt, nameAt}
+use Rattle.bodies.specs.Bodies.{readPcr, readBin, readBody}
+use Rattle.count_bodies.specs.Counts.{binValuesFit}
 use Rattle.line_layouts.specs.declared.Tag.{Tag}
 use Rattle.line_layouts.specs.declared.Tag.the-variants.{Pcr, Hbr, Sbr}
 use Rattle.line_layouts.specs.declared.Form.the-variants.{U2, U4}

@@ -19,8 +19,8 @@ use Rattle.numbers.specs.declared.Order.{Order}
 use Rattle.numbers.specs.declared.Order.the-variants.{HighFirst, LowFirst}
 use Rattle.numbers.specs.Numbers.{number, front, written, past}
 use Rattle.numbers.proofs.Laws.{read-written, length-written, one-written, front-part}
-use Rattle.bodies.specs.declared.Optional.the-variants as optional
-use Rattle.bodies.specs.Values.{countAt, passFailAt, nameAt, passFailFits}
+use Rattle.values.specs.declared.Optional.the-variants as optional
+use Rattle.values.specs.Values.{countAt, passFailAt, nameAt, passFailFits}
 use Rattle.line_layouts.specs.declared.Form.the-variants.{U1, U4, C1, Cn}
 use Rattle.line_layouts.specs.declared.Column.{Column}
 use Rattle.line_layouts.specs.declared.Layout.the-variants as layout

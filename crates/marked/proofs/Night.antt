@@ -14,7 +14,7 @@ use Rattle.session.specs.Judge.{judgeIn, judgeFirst, judgePir, judgePrr, judgeL
 use Rattle.frames.specs.Frames.{isRecord}
 use Rattle.kinds.specs.Kinds.{named, kindOf}
 use Rattle.bodies.specs.Bodies.{readBody}
-use Rattle.bodies.specs.Values.{softBinFits}
+use Rattle.values.specs.Values.{softBinFits}
 use Rattle.marked.specs.Night.{NightAnswers, NightTally, NightAssured}
 
 pub night-answers : NightAnswers

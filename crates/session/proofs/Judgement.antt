@@ -27,9 +27,9 @@ use Rattle.kinds.specs.declared.Kind.the-variants as kind
 use Rattle.kinds.specs.Kinds.{kindOf, known}
 use Rattle.frames.specs.Frames.{header, recLen, recTyp, recSub, body, isRecord}
 use Rattle.fields.specs.Tables.{far}
-use Rattle.bodies.specs.declared.Pcr.{Pcr}
-use Rattle.bodies.specs.declared.Pir.{Pir}
-use Rattle.bodies.specs.declared.Prr.{Prr}
+use Rattle.count_bodies.specs.declared.Pcr.{Pcr}
+use Rattle.part_bodies.specs.declared.Pir.{Pir}
+use Rattle.part_bodies.specs.declared.Prr.{Prr}
 use Rattle.bodies.specs.declared.Record.{Record}
 use Rattle.bodies.specs.declared.Record.the-variants as said
 use Rattle.bodies.specs.declared.Reading.{Reading}
