@@ -60,7 +60,7 @@ module _ (order : Order) where
         go [] h g = absurd (omega arith)
         go (b ∷ bs) h g = rw (lt-leb (size order f (b ∷ bs)) (suc (length bs)) g)
 
-    ends-on : 1 ≤ length bytes → size order f bytes ≤ length bytes
+    pub ends-on : 1 ≤ length bytes → size order f bytes ≤ length bytes
         → endsAmong order (f ∷ fs) bytes ≡ endsAmong order fs (drop (size order f bytes) bytes)
     ends-on = go bytes
       where
@@ -75,7 +75,7 @@ module _ (order : Order) where
           let n = size order f bytes in
           rw (lt-leb (n + sizes order fs (drop n bytes)) (length bytes) (omega arith))
 
-      fits-on : size order f bytes ≤ length bytes
+      pub fits-on : size order f bytes ≤ length bytes
           → fits order (f ∷ fs) optional bytes ≡ fits order fs optional (drop (size order f bytes) bytes)
       fits-on h =
           let n = size order f bytes in

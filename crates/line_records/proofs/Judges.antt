@@ -17,13 +17,13 @@ use Rattle.kinds.specs.declared.Kind.{Kind}
 use Rattle.kinds.specs.declared.Kind.the-variants as kind
 use Rattle.kinds.specs.Kinds.{kindOf}
 use Rattle.frames.specs.Frames.{recTyp, recSub, body, isRecord}
-use Rattle.fields.specs.Tables.{fields, fitsBody, pcr, bin}
-use Rattle.fields.proofs.Laws.{begun-whole}
+use Rattle.fields.specs.Tables.{fitsBody, pcr, bin}
 use Rattle.values.specs.declared.Optional.{Optional}
 use Rattle.values.specs.declared.Optional.the-variants as optional
 use Rattle.values.specs.Values.{passFailAt, nameAt}
 use Rattle.count_bodies.specs.declared.Pcr.{Pcr}
 use Rattle.count_bodies.specs.Counts.{pcrOf, binCountOf, binValuesFit}
+use Rattle.count_bodies.proofs.Laws.{name-whole}
 use Rattle.bodies.specs.Bodies.{readPcr, readBin, readBody}
 use Rattle.line_layouts.specs.declared.Said.{Said}
 use Rattle.line_layouts.specs.declared.Said.the-variants as said
@@ -89,7 +89,7 @@ module _ (source : List ℕ) where
       go true e true f = rw (e, f) tt
       go true e false f = rw (e, f) (omega (arith, leb-true 9 (length source) e), omega arith)
 
-  module _ (bytes : getD source 9 0 < 256) (fits : fitsBody bin source ≡ true) where
+  module _ (order : Order) (bytes : getD source 9 0 < 256) (fits : fitsBody order bin source ≡ true) where
     within-name : Within source (nameSaid (nameAt source 9))
     unfolding nameAt
     within-name = go (leb 10 (length source)) refl (eqb (getD source 9 0) 0) refl
@@ -101,7 +101,7 @@ module _ (source : List ℕ) where
         go true e false f =
             let begun = leb-true 10 (length source) e in
             rw (e, f)
-            (omega (arith, begun-whole (fields bin) 4 5 source (omega arith) fits (omega arith)), omega arith)
+            (omega (arith, name-whole order source fits (omega arith)), omega arith)
 
   -- seven fields, each of which names bytes that are there
   seven-within : (a b c d e f g : Said) → Within source a → Within source b → Within source c → Within source d
@@ -128,7 +128,7 @@ module _ (source : List ℕ) where
       }
 
   module _ (soft : Bool) (order : Order) (bytes : getD source 9 0 < 256) where
-    bin-within : fitsBody bin source ≡ true → AllWithin source (binLine (binCountOf soft order source))
+    bin-within : fitsBody order bin source ≡ true → AllWithin source (binLine (binCountOf soft order source))
     bin-within fits =
         let b = binCountOf soft order source in
         record {
@@ -137,15 +137,15 @@ module _ (source : List ℕ) where
               seven-within (siteSaid (b .head) (b .head)) (siteSaid (b .head) (b .site)) (said.Number (b .bin))
               (said.Number (b .count)) (letterSaid (b .pf)) (nameSaid (b .name)) said.Missing
               (within-site (b .head) (b .head)) (within-site (b .head) (b .site)) tt tt within-letter
-              (within-name bytes fits) tt;
+              (within-name order bytes fits) tt;
         }
 
     -- a record read of a body of a count kind has its fields within the body
     read-bin-within : ofReading (readBin soft order source) .fault ≡ None
         → AllWithin source (ofReading (readBin soft order source) .line)
-    read-bin-within none = go (fitsBody bin source) refl (binValuesFit order source) refl
+    read-bin-within none = go (fitsBody order bin source) refl (binValuesFit order source) refl
       where
-        go : (t : Bool) → fitsBody bin source ≡ t → (u : Bool) → binValuesFit order source ≡ u
+        go : (t : Bool) → fitsBody order bin source ≡ t → (u : Bool) → binValuesFit order source ≡ u
             → AllWithin source (ofReading (readBin soft order source) .line)
         go true e true f = rw (e, f) (bin-within e)
         go true e false f = found-none _ (rw (e, f) at none)
@@ -153,9 +153,9 @@ module _ (source : List ℕ) where
 
   read-pcr-within : (order : Order) → ofReading (readPcr order source) .fault ≡ None
       → AllWithin source (ofReading (readPcr order source) .line)
-  read-pcr-within order none = go (fitsBody pcr source) refl
+  read-pcr-within order none = go (fitsBody order pcr source) refl
     where
-      go : (t : Bool) → fitsBody pcr source ≡ t → AllWithin source (ofReading (readPcr order source) .line)
+      go : (t : Bool) → fitsBody order pcr source ≡ t → AllWithin source (ofReading (readPcr order source) .line)
       go true e = rw e (pcr-within (pcrOf order source))
       go false e = found-none _ (rw e at none)
 

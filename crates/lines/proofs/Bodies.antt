@@ -3,11 +3,11 @@
 use mathlib.Core.Path.{_≡_, refl, ap, sym, _∙_}
 use mathlib.Core.Bool.{Bool, true, false, cond, not, _&&_}
 use mathlib.Core.List.{List, [], _∷_, _++_, map}
-use Prim.Native.Nat.{ℕ, zero, suc, _+_, _-_, _*_, _≤_, _<_}
+use Prim.Native.Nat.{ℕ, zero, suc, _+_, _*_, _≤_, _<_}
 use native.Mathlib.Omega.{arith}
 use borrow.Author.Tests.{le-leb, leb-true, not-true}
 use lib.Dec.{leb, ltb}
-use lib.ListN.{length, getD, drop, length-append}
+use lib.ListN.{length, getD, take, drop, length-append}
 use lib.Seq.{drop-append-seam, drop-at, drop-drop, drop-nil}
 use Rattle.prelude.specs.Each.{each}
 use Rattle.prelude.proofs.Never.{false-true}
@@ -15,7 +15,11 @@ use Rattle.prelude.proofs.Both.{both-left, both-right}
 use Rattle.numbers.specs.declared.Order.{Order}
 use Rattle.numbers.specs.Numbers.{written, past}
 use Rattle.numbers.proofs.Laws.{length-written, one-written}
-use Rattle.fields.specs.Fields.{size, fits}
+use Rattle.fields.specs.declared.FieldType.{FieldType}
+use Rattle.fields.specs.declared.FieldType.the-variants.{U, I}
+use Rattle.fields.specs.declared.FieldType.the-variants as fieldtype
+use Rattle.fields.specs.Fields.{u1, u2, u4, c1, cn, size, endsAmong, fits}
+use Rattle.fields.proofs.Laws.{ends-on, fits-on}
 use Rattle.line_layouts.specs.declared.Tag.{Tag}
 use Rattle.line_layouts.specs.declared.Tag.the-variants.{Pcr, Hbr, Sbr}
 use Rattle.line_layouts.specs.declared.Form.{Form}
@@ -30,9 +34,13 @@ use Rattle.line_texts.specs.Pieces.{isNumber, letterFits}
 use Rattle.line_texts.specs.Laws.{entryFits, entriesFit}
 use Rattle.lines.proofs.Most.{laid-none}
 
--- a column's type in the tables of `fields`: its width, 0 where a count byte tells it
-abbrev pub typeOf : Form → ℕ
-typeOf form = cond (isName form) 0 (width form)
+-- a column's type in the tables of `fields`
+abbrev pub fieldType : Form → FieldType
+fieldType U1 = u1
+fieldType U2 = u2
+fieldType U4 = u4
+fieldType C1 = c1
+fieldType Cn = cn
 
 -- what the tables are such that: a number fits its width, a name its count byte, P/F one byte
 abbrev pub roomy : Column → Bool
@@ -46,31 +54,31 @@ roomy-columns Sbr = refl
 -- ---- one field
 
 -- as long as its table's type says, and short
-pub record Measured (form : Form) (bytes : List ℕ) : Type 0 where
+pub record Measured (order : Order) (form : Form) (bytes : List ℕ) : Type 0 where
   pub some : 1 ≤ length bytes
   pub few : length bytes ≤ 256
-  pub is : size (typeOf form) (getD bytes 0 0) ≡ length bytes
+  pub is : size order (fieldType form) bytes ≡ length bytes
 
 module _ (order : Order) where
-  of-width : (form : Form) (w n : ℕ) → 1 ≤ w → w ≤ 256 → size (typeOf form) (getD (written order w n) 0 0) ≡ w
-      → Measured form (written order w n)
+  of-width : (form : Form) (w n : ℕ) → 1 ≤ w → w ≤ 256 → size order (fieldType form) (written order w n) ≡ w
+      → Measured order form (written order w n)
   of-width form w n some few is =
       let long = length-written order w n in
       record { some = omega arith; few = omega arith; is = is ∙ sym long }
 
-  number-measured : (form : Form) (n : ℕ) → isName form ≡ false → Measured form (written order (width form) n)
+  number-measured : (form : Form) (n : ℕ) → isName form ≡ false → Measured order form (written order (width form) n)
   number-measured U1 n e = of-width U1 1 n (omega arith) (omega arith) refl
   number-measured U2 n e = of-width U2 2 n (omega arith) (omega arith) refl
   number-measured U4 n e = of-width U4 4 n (omega arith) (omega arith) refl
   number-measured C1 n e = of-width C1 1 n (omega arith) (omega arith) refl
   number-measured Cn n e = false-true (sym e)
 
-  name-measured : (bytes : List ℕ) → length bytes ≤ 255 → Measured Cn (written order 1 (length bytes) ++ bytes)
+  name-measured : (bytes : List ℕ) → length bytes ≤ 255 → Measured order Cn (written order 1 (length bytes) ++ bytes)
   name-measured bytes h =
       rw (one-written order (length bytes) (omega arith))
       (record { some = omega arith; few = omega arith; is = omega arith })
 
-  missing-measured : (form : Form) → Measured form (stored order form Missing)
+  missing-measured : (form : Form) → Measured order form (stored order form Missing)
   missing-measured U1 = number-measured U1 (missingValue U1) refl
   missing-measured U2 = number-measured U2 (missingValue U2) refl
   missing-measured U4 = number-measured U4 (missingValue U4) refl
@@ -78,7 +86,7 @@ module _ (order : Order) where
   missing-measured Cn =
       rw (one-written order 0 (omega arith)) (record { some = omega arith; few = omega arith; is = refl })
 
-  value-measured : (form : Form) (n : ℕ) → isNumber form ≡ true → Measured form (stored order form (Number n))
+  value-measured : (form : Form) (n : ℕ) → isNumber form ≡ true → Measured order form (stored order form (Number n))
   value-measured U1 n e = number-measured U1 n refl
   value-measured U2 n e = number-measured U2 n refl
   value-measured U4 n e = number-measured U4 n refl
@@ -86,7 +94,7 @@ module _ (order : Order) where
   value-measured Cn n e = false-true e
 
   text-measured : (form : Form) (most : ℕ) (bytes : List ℕ) → isNumber form ≡ false → 1 ≤ length bytes
-      → length bytes ≤ most → most ≤ cond (isName form) 255 1 → Measured form (stored order form (Text bytes))
+      → length bytes ≤ most → most ≤ cond (isName form) 255 1 → Measured order form (stored order form (Text bytes))
   text-measured U1 most bytes e some few room = false-true (sym e)
   text-measured U2 most bytes e some few room = false-true (sym e)
   text-measured U4 most bytes e some few room = false-true (sym e)
@@ -94,7 +102,7 @@ module _ (order : Order) where
   text-measured Cn most bytes e some few room = name-measured bytes (omega arith)
 
   pub entry-measured : (c : Column) (e : Entry) → roomy c ≡ true → entryFits c e ≡ true
-      → Measured (c .0) (stored order (c .0) e)
+      → Measured order (c .0) (stored order (c .0) e)
   entry-measured c Missing room e = missing-measured (c .0)
   entry-measured c (Number n) room e = value-measured (c .0) n (both-left (isNumber (c .0)) (leb n (c .1)) e)
   entry-measured c (Text []) room e = false-true e
@@ -108,13 +116,32 @@ module _ (order : Order) where
 
 -- ---- field after field
 
+-- a field's first bytes tell its size, whatever stands behind it
+size-front : (order : Order) (f : FieldType) (x rest : List ℕ) → 1 ≤ length x
+    → size order f (x ++ rest) ≡ size order f x
+size-front order f [] rest some = absurd (omega arith)
+size-front order (U width) (b ∷ bs) rest some = refl
+size-front order (I width) (b ∷ bs) rest some = refl
+size-front order fieldtype.C1 (b ∷ bs) rest some = refl
+size-front order fieldtype.B1 (b ∷ bs) rest some = refl
+size-front order fieldtype.Cn (b ∷ bs) rest some = refl
+size-front order fieldtype.Bn (b ∷ bs) rest some = refl
+
 -- a field that is as long as its type says, then the rest
-fits-on : (f : ℕ) (fs : List ℕ) (required : ℕ) (x rest : List ℕ) → 1 ≤ length x → size f (getD x 0 0) ≡ length x
-    → fits (f ∷ fs) required (x ++ rest) ≡ fits fs (required - 1) rest
-fits-on f fs required [] rest some is = absurd (omega arith)
-fits-on f fs required (b ∷ bs) rest some is =
-    let whole : length (b ∷ bs) ≤ length (b ∷ bs ++ rest) = omega (arith, length-append bs rest) in
-    rw (is, le-leb (length (b ∷ bs)) (length (b ∷ bs ++ rest)) whole, drop-append-seam (b ∷ bs) rest)
+module _ (order : Order) (f : FieldType) (x rest : List ℕ) (some : 1 ≤ length x) (is : size order f x ≡ length x) where
+  long : size order f (x ++ rest) ≡ length x
+  long = size-front order f x rest some ∙ is
+
+  first-ends : (fs : List FieldType) → endsAmong order (f ∷ fs) (x ++ rest) ≡ endsAmong order fs rest
+  first-ends fs =
+      let whole = length-append x rest in
+      ends-on order f fs (x ++ rest) (omega arith) (omega (arith, long))
+      ∙ rw (long, drop-append-seam x rest)
+
+  first-fits : (fs optional : List FieldType) → fits order (f ∷ fs) optional (x ++ rest) ≡ fits order fs optional rest
+  first-fits fs optional =
+      let whole = length-append x rest in
+      fits-on order f fs (x ++ rest) optional (omega (arith, long)) ∙ rw (long, drop-append-seam x rest)
 
 -- entries without the missing ones at their end: none, or the first one and the rest
 kept-by : (P : Entry → List Entry → List Entry → Type 0) → P Missing [] []
@@ -152,8 +179,8 @@ module _ (order : Order) where
   abbrev pub laidIn : List Column → List Entry → List ℕ
   laidIn cs es = laid (layout.Record order) cs es
 
-  abbrev types : List Column → List ℕ
-  types cs = map (λ (c : Column). typeOf (c .0)) cs
+  abbrev types : List Column → List FieldType
+  types cs = map (λ (c : Column). fieldType (c .0)) cs
 
   module _ (c : Column) (cs : List Column) where
     pub laid-first : (e : Entry) (es : List Entry) → laidIn (c ∷ cs) (e ∷ es) ≡ stored order (c .0) e ++ laidIn cs es
@@ -163,26 +190,40 @@ module _ (order : Order) where
     no-fields : laidIn (c ∷ cs) [] ≡ []
     no-fields = laid-none (layout.Record order) (c ∷ cs)
 
-    fits-kept : (e : Entry) (es : List Entry) (required : ℕ) → Measured (c .0) (stored order (c .0) e)
-        → required ≤ length (kept e es)
-        → (required - 1 ≤ length es → fits (types cs) (required - 1) (laidIn cs es) ≡ true)
-        → fits (types (c ∷ cs)) required (laidIn (c ∷ cs) (kept e es)) ≡ true
+    ends-kept : (e : Entry) (es : List Entry) → Measured order (c .0) (stored order (c .0) e)
+        → endsAmong order (types cs) (laidIn cs es) ≡ true
+        → endsAmong order (types (c ∷ cs)) (laidIn (c ∷ cs) (kept e es)) ≡ true
+    ends-kept =
+        kept-by
+        (λ (e : Entry) (es all : List Entry). Measured order (c .0) (stored order (c .0) e)
+        → endsAmong order (types cs) (laidIn cs es) ≡ true
+        → endsAmong order (types (c ∷ cs)) (laidIn (c ∷ cs) all) ≡ true)
+        (λ s more. rw no-fields)
+        (λ e es s more. rw (laid-first e es)
+        (first-ends order (fieldType (c .0)) (stored order (c .0) e) (laidIn cs es) (s .some) (s .is) (types cs)
+        ∙ more))
+
+    fits-kept : (e : Entry) (es : List Entry) (r : ℕ) → Measured order (c .0) (stored order (c .0) e)
+        → suc r ≤ length (kept e es)
+        → (r ≤ length es → fits order (take r (types cs)) (drop r (types cs)) (laidIn cs es) ≡ true)
+        → fits order (take (suc r) (types (c ∷ cs))) (drop (suc r) (types (c ∷ cs))) (laidIn (c ∷ cs) (kept e es)) ≡ true
     fits-kept =
         kept-by
-        (λ (e : Entry) (es all : List Entry). (required : ℕ) → Measured (c .0) (stored order (c .0) e)
-        → required ≤ length all
-        → (required - 1 ≤ length es → fits (types cs) (required - 1) (laidIn cs es) ≡ true)
-        → fits (types (c ∷ cs)) required (laidIn (c ∷ cs) all) ≡ true)
-        (λ required s few more. rw no-fields (le-leb required 0 few))
-        (λ e es required s few more. rw (laid-first e es)
-        (fits-on (typeOf (c .0)) (types cs) required (stored order (c .0) e) (laidIn cs es) (s .some) (s .is)
+        (λ (e : Entry) (es all : List Entry). (r : ℕ) → Measured order (c .0) (stored order (c .0) e)
+        → suc r ≤ length all
+        → (r ≤ length es → fits order (take r (types cs)) (drop r (types cs)) (laidIn cs es) ≡ true)
+        → fits order (take (suc r) (types (c ∷ cs))) (drop (suc r) (types (c ∷ cs))) (laidIn (c ∷ cs) all) ≡ true)
+        (λ r s few more. absurd (omega arith))
+        (λ e es r s few more. rw (laid-first e es)
+        (first-fits order (fieldType (c .0)) (stored order (c .0) e) (laidIn cs es) (s .some) (s .is)
+        (take r (types cs)) (drop r (types cs))
         ∙ more (omega arith)))
 
-    length-kept : (e : Entry) (es : List Entry) → Measured (c .0) (stored order (c .0) e)
+    length-kept : (e : Entry) (es : List Entry) → Measured order (c .0) (stored order (c .0) e)
         → length (laidIn (c ∷ cs) (kept e es)) ≤ 256 + length (laidIn cs es)
     length-kept =
         kept-by
-        (λ (e : Entry) (es all : List Entry). Measured (c .0) (stored order (c .0) e)
+        (λ (e : Entry) (es all : List Entry). Measured order (c .0) (stored order (c .0) e)
         → length (laidIn (c ∷ cs) all) ≤ 256 + length (laidIn cs es))
         (λ s. rw no-fields (omega arith))
         (λ e es s. rw (laid-first e es)
@@ -202,7 +243,7 @@ module _ (order : Order) where
 
   module _ (c : Column) (cs : List Column) (x : Entry) (es : List Entry) (room : each roomy (c ∷ cs) ≡ true)
       (e : entriesFit (c ∷ cs) (x ∷ es) ≡ true) where
-    first-measured : Measured (c .0) (stored order (c .0) x)
+    first-measured : Measured order (c .0) (stored order (c .0) x)
     first-measured =
         entry-measured order c x (both-left (roomy c) (each roomy cs) room)
         (both-left (entryFits c x) (entriesFit cs es) e)
@@ -213,15 +254,28 @@ module _ (order : Order) where
     rest-fit : entriesFit cs es ≡ true
     rest-fit = both-right (entryFits c x) (entriesFit cs es) e
 
+  -- fields one after the other end well
+  laid-ends : (cs : List Column) (es : List Entry) → each roomy cs ≡ true → entriesFit cs es ≡ true
+      → endsAmong order (types cs) (laidIn cs (present es)) ≡ true
+  laid-ends [] [] room e = rw (laid-none (layout.Record order) [])
+  laid-ends [] (x ∷ es) room e = false-true e
+  laid-ends (c ∷ cs) [] room e = false-true e
+  laid-ends (c ∷ cs) (x ∷ es) room e =
+      ends-kept c cs x (present es) (first-measured c cs x es room e)
+      (laid-ends cs es (rest-roomy c cs x es room e) (rest-fit c cs x es room e))
+
   -- a body with its required fields fits its table
   pub laid-fits : (cs : List Column) (es : List Entry) (required : ℕ) → each roomy cs ≡ true → entriesFit cs es ≡ true
-      → required ≤ length (present es) → fits (types cs) required (laidIn cs (present es)) ≡ true
-  laid-fits [] [] required room e few = rw (laid-none (layout.Record order) [])
-  laid-fits [] (x ∷ es) required room e few = false-true e
-  laid-fits (c ∷ cs) [] required room e few = false-true e
-  laid-fits (c ∷ cs) (x ∷ es) required room e few =
-      fits-kept c cs x (present es) required (first-measured c cs x es room e) few
-      (λ more. laid-fits cs es (required - 1) (rest-roomy c cs x es room e) (rest-fit c cs x es room e) more)
+      → required ≤ length (present es)
+      → fits order (take required (types cs)) (drop required (types cs)) (laidIn cs (present es)) ≡ true
+  laid-fits cs es zero room e few =
+      rw (le-leb 0 (length (laidIn cs (present es))) (omega arith)) (laid-ends cs es room e)
+  laid-fits [] [] (suc r) room e few = absurd (omega arith)
+  laid-fits [] (x ∷ es) (suc r) room e few = false-true e
+  laid-fits (c ∷ cs) [] (suc r) room e few = false-true e
+  laid-fits (c ∷ cs) (x ∷ es) (suc r) room e few =
+      fits-kept c cs x (present es) r (first-measured c cs x es room e) few
+      (λ more. laid-fits cs es r (rest-roomy c cs x es room e) (rest-fit c cs x es room e) more)
 
   -- REC_LEN holds its length
   pub laid-short : (cs : List Column) (es : List Entry) → each roomy cs ≡ true → entriesFit cs es ≡ true

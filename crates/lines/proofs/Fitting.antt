@@ -22,10 +22,10 @@ use Rattle.kinds.specs.declared.Kind.{Kind}
 use Rattle.kinds.specs.declared.Kind.the-variants as kind
 use Rattle.kinds.specs.Kinds.{kindOf}
 use Rattle.frames.specs.Frames.{recTyp, recSub, body}
-use Rattle.fields.specs.Tables.{fields, fitsBody, pcr, bin}
-use Rattle.fields.proofs.Laws.{begun-whole}
-use Rattle.values.specs.Values.{countAt, passFailAt, nameAt, passFailFits}
+use Rattle.fields.specs.Tables.{fitsBody, pcr, bin}
+use Rattle.values.specs.Values.{mostBin, countAt, passFailAt, nameAt, passFailFits}
 use Rattle.count_bodies.specs.Counts.{pcrOf, binCountOf, binValuesFit}
+use Rattle.count_bodies.proofs.Laws.{name-whole}
 use Rattle.bodies.specs.Bodies.{readPcr, readBin, readBody}
 use Rattle.output.proofs.Laws.{length-part}
 use Rattle.line_layouts.specs.declared.Form.the-variants.{U1, U4, C1, Cn}
@@ -151,7 +151,7 @@ module _ (order : Order) (b : List ℕ) (bytes : Bytes b) where
   text-name [] h g e = absurd (omega arith)
   text-name (x ∷ l) h g e = rw (le-leb (length (x ∷ l)) 255 g) e
 
-  name-fits : fitsBody bin b ≡ true → entryAllowed (entryOf b (nameSaid (nameAt b 9))) ≡ true
+  name-fits : fitsBody order bin b ≡ true → entryAllowed (entryOf b (nameSaid (nameAt b 9))) ≡ true
       → entryFits (Cn, 255, false) (entryOf b (nameSaid (nameAt b 9))) ≡ true
   unfolding nameAt
   name-fits fits ok = go (leb 10 (length b)) refl (eqb (getD b 9 0) 0) refl
@@ -166,8 +166,7 @@ module _ (order : Order) (b : List ℕ) (bytes : Bytes b) where
       go true e true f = rw (e, f)
       go true e false f =
           let begun = leb-true 10 (length b) e in
-          let whole : 10 + getD b 9 0 ≤ length b =
-          omega (arith, begun-whole (fields bin) 4 5 b (omega arith) fits (omega arith)) in
+          let whole : 10 + getD b 9 0 ≤ length b = name-whole order b fits (omega arith) in
           let size = length-part 10 (getD b 9 0) b whole in
           let n = positive (getD b 9 0) (eqb-false (getD b 9 0) 0 f) in
           rw (e, f)
@@ -184,11 +183,11 @@ module _ (order : Order) (b : List ℕ) (bytes : Bytes b) where
       entryOf b (nameSaid (nameAt b 9)) ∷
       []
 
-  bin-entries : fitsBody bin b ≡ true → binValuesFit order b ≡ true → each entryAllowed binEntries ≡ true
+  bin-entries : fitsBody order bin b ≡ true → binValuesFit order b ≡ true → each entryAllowed binEntries ≡ true
       → (entriesFit binColumns binEntries ≡ true) × (sitesFit binEntries ≡ true)
   bin-entries fits values ok =
-      let low = both-left (leb (number order (front 2 2 b)) 32767) (passFailFits b 8) values in
-      let pf = both-right (leb (number order (front 2 2 b)) 32767) (passFailFits b 8) values in
+      let low = both-left (leb (number order (front 2 2 b)) mostBin) (passFailFits b 8) values in
+      let pf = both-right (leb (number order (front 2 2 b)) mostBin) (passFailFits b 8) values in
       let name = each-at Entry entryAllowed binEntries Missing 5 ok (omega arith) in (
         rw (
           head-fits,
@@ -201,7 +200,7 @@ module _ (order : Order) (b : List ℕ) (bytes : Bytes b) where
         sites-fit _,
       )
 
-  bin-fits : (soft : Bool) → fitsBody bin b ≡ true → binValuesFit order b ≡ true
+  bin-fits : (soft : Bool) → fitsBody order bin b ≡ true → binValuesFit order b ≡ true
       → each entryAllowed (meaningOf b (binLine (binCountOf soft order b)) .entries) ≡ true
       → Fitting (meaningOf b (binLine (binCountOf soft order b)))
   bin-fits true fits values ok = bin-entries fits values ok
@@ -213,18 +212,18 @@ module _ (order : Order) (b : List ℕ) (bytes : Bytes b) where
       (meaningOf b (j .line))
 
   read-bin-fits : (soft : Bool) → Means (ofReading (readBin soft order b))
-  read-bin-fits soft none ok = go (fitsBody bin b) refl (binValuesFit order b) refl
+  read-bin-fits soft none ok = go (fitsBody order bin b) refl (binValuesFit order b) refl
     where
-      go : (t : Bool) → fitsBody bin b ≡ t → (u : Bool) → binValuesFit order b ≡ u
+      go : (t : Bool) → fitsBody order bin b ≡ t → (u : Bool) → binValuesFit order b ≡ u
           → Fitting (meaningOf b (ofReading (readBin soft order b) .line))
       go true e true f = rw (e, f) (bin-fits soft e f (rw (e, f) at ok))
       go true e false f = found-none _ (rw (e, f) at none)
       go false e u f = found-none _ (rw e at none)
 
   read-pcr-fits : Means (ofReading (readPcr order b))
-  read-pcr-fits none ok = go (fitsBody pcr b) refl
+  read-pcr-fits none ok = go (fitsBody order pcr b) refl
     where
-      go : (t : Bool) → fitsBody pcr b ≡ t → Fitting (meaningOf b (ofReading (readPcr order b) .line))
+      go : (t : Bool) → fitsBody order pcr b ≡ t → Fitting (meaningOf b (ofReading (readPcr order b) .line))
       go true e = rw e pcr-fits
       go false e = found-none _ (rw e at none)
 

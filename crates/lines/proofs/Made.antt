@@ -83,7 +83,7 @@ module _ (order : Order) (b : List ℕ) (head site : Entry) where
       (entryOf b (siteSaid (getD b 0 0) (getD b 0 0)) ≡ head)
       × (entryOf b (siteSaid (getD b 0 0) (getD b 1 0)) ≡ site)
 
-  pcr-says : (n : ℕ) (retest abort good functional : Entry) → fitsBody pcr b ≡ true → SitesSaid
+  pcr-says : (n : ℕ) (retest abort good functional : Entry) → fitsBody order pcr b ≡ true → SitesSaid
       → number order (front 4 2 b) ≡ n
       → entryOf b (countSaid (countAt order b 6)) ≡ retest
       → entryOf b (countSaid (countAt order b 10)) ≡ abort
@@ -96,7 +96,7 @@ module _ (order : Order) (b : List ℕ) (head site : Entry) where
   pcr-says n retest abort good functional fits sites parts r a g f =
       rw (fits, sites .0, sites .1, parts, r, a, g, f)
 
-  bin-says : (soft : Bool) (n count : ℕ) (letter name : Entry) → fitsBody bin b ≡ true → binValuesFit order b ≡ true
+  bin-says : (soft : Bool) (n count : ℕ) (letter name : Entry) → fitsBody order bin b ≡ true → binValuesFit order b ≡ true
       → SitesSaid
       → number order (front 2 2 b) ≡ n
       → number order (front 4 4 b) ≡ count
