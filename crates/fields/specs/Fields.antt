@@ -4,13 +4,13 @@
 --   size        how many bytes a field takes, by its type, the byte order and the bytes there
 --   sizes       how many bytes fields take, one behind the other
 --   endsAmong   whether bytes end as optional fields may
---   fits        whether bytes are a body of given fields
+--   fits        whether bytes are a body of given fields; fitsTable: by a table of the code
 -- Assumes nothing.
 use Prim.Native.Nat.{ℕ, _+_}
 use mathlib.Core.Bool.{Bool, true, false, cond, _&&_}
 use mathlib.Core.List.{List, [], _∷_, map}
 use lib.Dec.{eqb, leb}
-use lib.ListN.{length, getD, drop}
+use lib.ListN.{length, getD, take, drop}
 use Rattle.numbers.specs.declared.Order.{Order}
 use Rattle.fields.specs.declared.FieldType.{FieldType}
 use Rattle.fields.specs.declared.FieldType.the-variants.{U, I, C1, B1, Cn, Bn}
@@ -100,3 +100,8 @@ abbrev pub fits : Order → List FieldType → List FieldType → List ℕ → B
 fits order required optional bytes =
     leb (sizes order required bytes) (length bytes)
     && endsAmong order optional (drop (sizes order required bytes) bytes)
+
+-- the same by a table of the code, whose first fields are the required ones
+abbrev pub fitsTable : Order → List ℕ → ℕ → List ℕ → Bool
+fitsTable order codes required bytes =
+    fits order (take required (types codes)) (drop required (types codes)) bytes

@@ -64,7 +64,7 @@ prr = (u1 ∷ u1 ∷ b1 ∷ u2 ∷ u2 ∷ []) bar (u2 ∷ i2 ∷ i2 ∷ u4 ∷ c
 
 -- ---- a field by its number, from 0
 
--- where it begins: told by the table alone, as far as no field before it is counted, and so before a FAR tells the order
+-- where it begins: told by the table alone, as far as no field before it is counted; so of a FAR, which tells the order
 abbrev pub offsetOf : Body → ℕ → ℕ
 offsetOf t j = least (take j (fields t))
 

@@ -3,8 +3,8 @@
 use numbers::Order;
 ghost use mathlib.Core.Path.{_≡_};
 ghost use Prim.Native.Nat.{_+_, _≤_, _<_};
-ghost use lib.ListN.{length, getD, take, drop};
-ghost use Rattle.fields.specs.Fields.{typeOf, types, size, endsAmong, fits};
+ghost use lib.ListN.{length, getD, drop};
+ghost use Rattle.fields.specs.Fields.{typeOf, types, size, endsAmong, fitsTable};
 
 // The type of a field: an integer of a width, unsigned or signed; a character; eight bits; and the two whose count
 // byte tells how many bytes stand behind it.
@@ -166,7 +166,7 @@ pub fn fits_from(order: Order, body: &[u8], fields: &[u8], from: usize, known: u
 // Whether a body is made of the fields, of which the first `required` must be there.
 pub fn fits_table(order: Order, body: &[u8], fields: &[u8], required: usize) -> bool
     requires { ⌜ required ≤ length (now fields) ⌝ }
-    ensures { λ r. ⌜ r ≡ fits order (take required (types (now (fields .entry)))) (drop required (types (now (fields .entry)))) (now (body .entry)) ⌝ }
+    ensures { λ r. ⌜ r ≡ fitsTable order (now (fields .entry)) required (now (body .entry)) ⌝ }
 {
     let mut at: usize = 0;
     let mut j: usize = 0;

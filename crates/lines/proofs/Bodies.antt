@@ -206,7 +206,8 @@ module _ (order : Order) where
     fits-kept : (e : Entry) (es : List Entry) (r : ℕ) → Measured order (c .0) (stored order (c .0) e)
         → suc r ≤ length (kept e es)
         → (r ≤ length es → fits order (take r (types cs)) (drop r (types cs)) (laidIn cs es) ≡ true)
-        → fits order (take (suc r) (types (c ∷ cs))) (drop (suc r) (types (c ∷ cs))) (laidIn (c ∷ cs) (kept e es)) ≡ true
+        → fits order (take (suc r) (types (c ∷ cs))) (drop (suc r) (types (c ∷ cs))) (laidIn (c ∷ cs) (kept e es))
+        ≡ true
     fits-kept =
         kept-by
         (λ (e : Entry) (es all : List Entry). (r : ℕ) → Measured order (c .0) (stored order (c .0) e)

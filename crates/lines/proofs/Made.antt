@@ -96,7 +96,8 @@ module _ (order : Order) (b : List ℕ) (head site : Entry) where
   pcr-says n retest abort good functional fits sites parts r a g f =
       rw (fits, sites .0, sites .1, parts, r, a, g, f)
 
-  bin-says : (soft : Bool) (n count : ℕ) (letter name : Entry) → fitsBody order bin b ≡ true → binValuesFit order b ≡ true
+  bin-says : (soft : Bool) (n count : ℕ) (letter name : Entry) → fitsBody order bin b ≡ true
+      → binValuesFit order b ≡ true
       → SitesSaid
       → number order (front 2 2 b) ≡ n
       → number order (front 4 4 b) ≡ count

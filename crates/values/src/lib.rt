@@ -1,5 +1,5 @@
-// What stands in a field: document 01, "Record frame and kinds", value rules and optional fields. Each function reads at
-// a stated offset of a body.
+// What stands in a field: document 01, "Record frame and kinds", value rules and optional fields. Each function reads
+// at a stated offset of a body.
 use numbers::Order;
 ghost use mathlib.Core.Path.{_≡_};
 ghost use Prim.Native.Nat.{_+_, _≤_};

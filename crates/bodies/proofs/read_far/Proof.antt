@@ -16,8 +16,8 @@ use Rattle.bodies.proofs.read_far.Statement.{statement}
 use Rattle.bodies.proofs.read_far.Tie as tie
 
 fits : (c : tie.Then1)
-    → fitsBody (c .before .before .before .before .args .order) far (now (c .before .before .before .before .args .body))
-    ≡ true
+    → fitsBody (c .before .before .before .before .args .order) far
+    (now (c .before .before .before .before .args .body)) ≡ true
 unfolding typeOf
 fits c = sym (c .before .fits-table .ensures) ∙ c .if1 .taken
 

@@ -13,14 +13,14 @@ use Rattle.count_bodies.proofs.fits_bin.Statement.{statement}
 use Rattle.count_bodies.proofs.fits_bin.Tie as tie
 
 fits : (c : tie.Then1)
-    → fitsBody (c .before .before .before .before .args .order) bin (now (c .before .before .before .before .args .body))
-    ≡ true
+    → fitsBody (c .before .before .before .before .args .order) bin
+    (now (c .before .before .before .before .args .body)) ≡ true
 unfolding typeOf
 fits c = sym (c .before .fits-table .ensures) ∙ c .if1 .taken
 
 misfit : (c : tie.Else1)
-    → fitsBody (c .before .before .before .before .args .order) bin (now (c .before .before .before .before .args .body))
-    ≡ false
+    → fitsBody (c .before .before .before .before .args .order) bin
+    (now (c .before .before .before .before .args .body)) ≡ false
 unfolding typeOf
 misfit c = sym (c .before .fits-table .ensures) ∙ c .if1 .left
 
