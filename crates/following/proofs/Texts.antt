@@ -24,6 +24,7 @@ use Rattle.digits.specs.Digits.{digits}
 use Rattle.digits.proofs.Laws.{length-one, length-more, digits-most}
 use Rattle.line_layouts.specs.declared.Line.{Line}
 use Rattle.line_layouts.specs.declared.Layout.the-variants as layout
+use Rattle.line_layouts.specs.Columns.{separator}
 use Rattle.line_layouts.specs.Entries.{noField, meaningOf, Within, AllWithin}
 use Rattle.line_layouts.specs.Layouts.{laid, laidOut}
 use Rattle.following.specs.Text.{rowLine, rowLines}
@@ -104,7 +105,7 @@ line-within r is = rw is (record { seven = refl; within = at })
 
 module _ (r : Row) (low : RowLow r) {line : Line} (is : line ≡ lineOf r) (old : List ℕ) (at : ℕ)
     (room : at + mostLine ≤ length old) (put : Written) (new : List ℕ)
-    (did : outcome put new ≡ placedAt (laidOut layout.Text (meaningOf [] line)) old at) where
+    (did : outcome put new ≡ placedAt (laidOut (layout.Text separator) (meaningOf [] line)) old at) where
   laid-there : outcome put new
       ≡ outcome (written.Bytes (length (rowLine r)))
       (take at old ++ (rowLine r ++ drop (at + length (rowLine r)) old))

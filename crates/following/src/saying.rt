@@ -6,6 +6,7 @@ use line_layouts::Layout;
 use line_layouts::Line;
 use line_layouts::Said;
 use line_layouts::Tag;
+use line_layouts::columns::SEPARATOR;
 use line_layouts::laying::place;
 use output::Written;
 use output::put_byte;
@@ -123,7 +124,7 @@ pub(crate) fn put_row(out: &mut [u8], at: usize, row: Row) -> usize
     requires { ⌜ at + mostLine ≤ length (now out) ⌝ }
     ensures { λ r. ⌜ LaidAt (rowLine row) (now (out .entry)) at r (now (out .exit)) ⌝ }
 {
-    match place(out, at, Layout::Text, b"", row_line(row)) {
+    match place(out, at, Layout::Text(SEPARATOR), b"", row_line(row)) {
         Written::Bytes(n) => n,
         Written::Refused(_) => 0,
     }

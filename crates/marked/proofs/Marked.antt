@@ -19,7 +19,8 @@ use Rattle.output.specs.Placed.{placedAt}
 use Rattle.digits.specs.Digits.{digits, isDigit, numeral}
 use Rattle.line_layouts.specs.Names.{allowed}
 use Rattle.line_layouts.specs.Layouts.{laid}
-use Rattle.line_texts.specs.Texts.{ending, tagOf, sitesFit, contentMeans}
+use Rattle.line_layouts.specs.Fitting.{sits}
+use Rattle.line_texts.specs.Texts.{ending, tagOf, contentMeans}
 use Rattle.line_texts.specs.Pieces.{split, pieceFits, entryIn, fieldsFit, entriesIn}
 use Rattle.marked.specs.Marked.{table, Marked}
 
@@ -28,6 +29,6 @@ unfolding table sound rowsSound slotsSound slotSound promisedFrom unfilled grant
     delivered openSlot deliver rowAt reported heldBy sumBy rowRight rowsRight countedMore countedNew counted plus
     risingFrom rising rank held allBelow insertAt removeAt session.sound partsRight judgeIn judgeFirst judgePir
     judgePrr judgeLater judge isRecord named kindOf readBody softBinFits closeSlot slotDropped hasType beyondTable
-    placedAt digits isDigit numeral allowed laid ending tagOf sitesFit contentMeans split pieceFits entryIn fieldsFit
+    placedAt digits isDigit numeral allowed laid sits ending tagOf contentMeans split pieceFits entryIn fieldsFit
     entriesIn
 marked-cases = refl
