@@ -1,103 +1,115 @@
-// The calls and their answers: each takes the house and gives back the house after it.
-use crate::report::report_call;
+// Each line of standard input: read, played, said. The longest call delivers 65,539 bytes; a longer line is no call, and
+// is passed over.
+use crate::count_lines::line_call;
+use crate::house_calls::house_call;
 use house::House;
-use script::Number;
-use script::Verb;
-use script::close_call;
-use script::figures_call;
-use script::is_hex;
-use script::is_no_bytes;
-use script::line_call;
-use script::no_call;
-use script::number_of;
-use script::open_call;
-use script::said;
-use script::unhex;
-use script::verb_of;
-use script::word_end;
+use input::Found;
+use input::Input;
+use input::next_line;
+use requests::Asked;
+use requests::read_request;
 use transcript::say;
-ghost use Prim.Native.Nat.{_≤_};
+ghost use mathlib.Core.Path.{_≡_};
 ghost use lib.ListN.{length};
+
+const LINE: usize = 140000;
+
+fn line_buffer() -> [u8; LINE]
+    ensures { λ r. ⌜ 140000 ≡ length r ⌝ }
+{
+    [0; LINE]
+}
+
+fn no_call(house: House) -> House {
+    say(b"?\n");
+    house
+}
 
 fn fresh_call() -> House {
     say(b"0\n");
     House::fresh()
 }
 
-// The record's digits stand from `from` on.
-fn deliver_call(house: House, slot: Number, line: &mut [u8], from: usize) -> House
-    requires { ⌜ from ≤ length (now line) ⌝ }
-{
-    let Number::Is(s) = slot else {
-        return no_call(house);
-    };
-    if is_no_bytes(&line[from..]) {
-        return said(calls::deliver(house, s, b""));
-    }
-    if !is_hex(&line[from..]) {
-        return no_call(house);
-    }
-    let n = unhex(line, from);
-    said(calls::deliver(house, s, &line[0..n]))
-}
-
-// A verb alone.
-fn answer_alone(house: House, verb: Verb) -> House {
-    match verb {
-        Verb::Fresh => fresh_call(),
-        Verb::Figures => figures_call(house),
-        _ => no_call(house),
-    }
-}
-
-// A verb with one word.
-fn answer_one(house: House, verb: Verb, word: &[u8]) -> House {
-    match verb {
-        Verb::Close => close_call(house, number_of(word)),
-        _ => no_call(house),
-    }
-}
-
-// A verb with a first word, a slot or a byte order, and what starts at `from`: a second word, in which no space is
-// taken, or the words of a count line's call.
-fn answer_two(house: House, verb: Verb, slot: Number, line: &mut [u8], from: usize) -> House
-    requires { ⌜ from ≤ length (now line) ⌝ }
-{
-    match verb {
-        Verb::Open => open_call(house, slot, number_of(&line[from..])),
-        Verb::Deliver => deliver_call(house, slot, line, from),
-        Verb::Report => report_call(house, slot, number_of(&line[from..])),
-        Verb::Write => line_call(house, verb, slot, line, from),
-        Verb::Read => line_call(house, verb, slot, line, from),
-        _ => no_call(house),
-    }
-}
-
-fn answer_call(house: House, line: &mut [u8]) -> House {
-    let e = word_end(line, 0);
-    let verb = verb_of(&line[0..e]);
-    if e == line.len() {
-        return answer_alone(house, verb);
-    }
-    let a = e + 1;
-    let b = word_end(line, a);
-    if b == line.len() {
-        return answer_one(house, verb, &line[a..]);
-    }
-    let slot = number_of(&line[a..b]);
-    answer_two(house, verb, slot, line, b + 1)
+fn copied(house: House, line: &[u8]) -> House {
+    say(line);
+    say(b"\n");
+    house
 }
 
 // One line, without its LF.
-pub(crate) fn answer_line(house: House, line: &mut [u8]) -> House {
-    if line.len() == 0 {
-        say(b"\n");
-        return house;
+fn answer_line(house: House, line: &mut [u8]) -> House {
+    let read = read_request(line);
+    let n = read.bytes;
+    let asked = read.asked;
+    match asked {
+        Asked::Nothing => copied(house, b""),
+        Asked::Comment => copied(house, line),
+        Asked::Fresh => fresh_call(),
+        Asked::Play(call) => house_call(house, call, &line[0..n]),
+        Asked::Line(way, order, at, long) => line_call(house, way, order, at, long, &line[0..n]),
+        Asked::NoCall => no_call(house),
     }
-    if line[0] == b'#' {
-        say(line);
-        say(b"\n");
-        return house;
+}
+
+// The house, where the input stands, and whether it goes on.
+struct Desk {
+    house: House,
+    input: Input,
+    going: bool,
+}
+
+fn begin_desk() -> Desk {
+    let house = House::fresh();
+    let input = input::begin();
+    Desk {
+        house,
+        input,
+        going: true,
     }
-    answer_call(house, line)
+}
+
+fn answer_found(house: House, found: Found, line: &mut [u8]) -> House {
+    match found {
+        Found::Line => answer_line(house, line),
+        Found::TooLong => no_call(house),
+        Found::End => house,
+    }
+}
+
+fn goes_on(found: Found) -> bool {
+    match found {
+        Found::Line => true,
+        Found::TooLong => true,
+        Found::End => false,
+    }
+}
+
+fn answer_next(desk: Desk, chunk: &mut [u8], line: &mut [u8]) -> Desk {
+    let house = desk.house;
+    let input = desk.input;
+    let next = next_line(input, chunk, line);
+    let found = next.found;
+    let long = next.long;
+    let behind = next.input;
+    let after = answer_found(house, found, &mut line[0..long]);
+    let going = goes_on(found);
+    Desk {
+        house: after,
+        input: behind,
+        going,
+    }
+}
+
+// A proved loop has to end, and nothing says that the input does: the turns are a number that no run uses up.
+pub(crate) fn answer_all() {
+    let mut read = io::large_buffer();
+    let chunk: &mut [u8] = &mut read;
+    let mut space = line_buffer();
+    let line: &mut [u8] = &mut space;
+    let mut desk = begin_desk();
+    let mut turns = u64::MAX;
+    while turns > 0 && desk.going {
+        desk = answer_next(desk, chunk, line);
+        turns -= 1;
+    }
 }
