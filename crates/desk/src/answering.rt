@@ -1,5 +1,5 @@
-// Each line of standard input: read, played, said. The longest call delivers 65,539 bytes; a longer line is no call, and
-// is passed over.
+// Each line of standard input: read, played, said. The longest call delivers 65,539 bytes; a longer line is no call,
+// and is passed over.
 use crate::count_lines::line_call;
 use crate::house_calls::house_call;
 use house::House;

@@ -1,5 +1,5 @@
-// The calls on count lines: `write`, a record to its line, and `read`, a line to its record; and what is written of them.
-// Document 01, "Count lines".
+// The calls on count lines: `write`, a record to its line, and `read`, a line to its record; and what is written of
+// them. Document 01, "Count lines".
 use house::House;
 use output::Written;
 use requests::Way;

@@ -1,5 +1,5 @@
--- Laws of what a verb asks for: a verb that does not take so many words makes no call, whichever it is. An arm `_` of the
--- code knows its verb by the numbers of those that are left.
+-- Laws of what a verb asks for: a verb that does not take so many words makes no call, whichever it is. An arm `_` of
+-- the code knows its verb by the numbers of those that are left.
 -- Assumes nothing.
 use mathlib.Core.Path.{_≡_, refl}
 use mathlib.Core.List.{List, [], _∷_}

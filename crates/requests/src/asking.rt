@@ -144,7 +144,8 @@ fn line_asked(way: Way, order: &[u8], at: &[u8], long: &[u8], hex: &[u8]) -> Ask
 }
 
 pub(crate) fn ask_four(verb: Verb, order: &[u8], at: &[u8], long: &[u8], hex: &[u8]) -> Asked
-    ensures { λ r. ⌜ r ≡ asks verb (now (order .entry) ∷ now (at .entry) ∷ now (long .entry) ∷ now (hex .entry) ∷ []) ⌝ }
+    ensures { λ r. ⌜ r ≡ asks verb (now (order .entry) ∷ now (at .entry) ∷ now (long .entry)
+        ∷ now (hex .entry) ∷ []) ⌝ }
 {
     match verb {
         Verb::Write => line_asked(Way::Write, order, at, long, hex),

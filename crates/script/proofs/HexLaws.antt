@@ -1,4 +1,5 @@
--- Laws of hexadecimal: a digit by the bounds that it stands between, a word by its tests, and bytes two digits at a time.
+-- Laws of hexadecimal: a digit by the bounds that it stands between, a word by its tests, and bytes two digits at a
+-- time.
 -- Assumes nothing.
 use mathlib.Core.Path.{_≡_, refl, sym, ap, _∙_}
 use mathlib.Core.Bool.{Bool, true, false, not}

@@ -1,6 +1,7 @@
 -- `desk::answering::answer_all` ends: the measure is the number of turns that are left.
 -- Assumes nothing.
 use borrow.Author.Needs.{needs}
+use native.Mathlib.Omega.{arith}
 use Rattle.desk.proofs.answering.answer_all.Statement.{statement}
 use Rattle.desk.proofs.answering.answer_all.Tie as tie
 
@@ -19,28 +20,28 @@ loop-again c = tt
 -- ---- found by search
 
 large-buffer-requires : tie.Need-large-buffer-requires Inv-loop μ-loop
-large-buffer-requires c κs = search needs
+large-buffer-requires c κs = tt
 
 slice-aggregate-chunk : tie.Need-slice-aggregate-chunk Inv-loop μ-loop
 slice-aggregate-chunk c = search needs
 
 line-buffer-requires : tie.Need-line-buffer-requires Inv-loop μ-loop
-line-buffer-requires c κs = search needs
+line-buffer-requires c κs = tt
 
 slice-aggregate-line : tie.Need-slice-aggregate-line Inv-loop μ-loop
 slice-aggregate-line c = search needs
 
 begin-desk-requires : tie.Need-begin-desk-requires Inv-loop μ-loop
-begin-desk-requires c κs = search needs
+begin-desk-requires c κs = tt
 
 answer-next-requires : tie.Need-answer-next-requires Inv-loop μ-loop
-answer-next-requires c κs = search needs
+answer-next-requires c κs = tt
 
 sub-turns : tie.Need-sub-turns Inv-loop μ-loop
-sub-turns c = search needs
+sub-turns c = omega arith
 
 loop-less : tie.Need-loop-less Inv-loop μ-loop
-loop-less c = search needs
+loop-less c = omega arith
 
 returns : tie.Need-returns Inv-loop μ-loop
 returns c = search needs

@@ -1,7 +1,9 @@
 -- `desk::house_calls::say_rows` ends, and reads only rows that there are.
 -- Assumes nothing.
+use mathlib.Core.Path.{refl}
 use Prim.Native.Nat.{_-_, _≤_}
 use borrow.Author.Needs.{needs}
+use native.Mathlib.Omega.{arith}
 use Rattle.desk.proofs.house_calls.say_rows.Statement.{statement}
 use Rattle.desk.proofs.house_calls.say_rows.Tie as tie
 
@@ -14,31 +16,31 @@ abbrev μ-loop : tie.MeasureT-loop
 -- ---- found by search
 
 slice-aggregate-say : tie.Need-slice-aggregate-say Inv-loop μ-loop
-slice-aggregate-say c = search needs
+slice-aggregate-say c = refl
 
 say-requires : tie.Need-say-requires Inv-loop μ-loop
-say-requires c κs = search needs
+say-requires c κs = tt
 
 say-number-requires : tie.Need-say-number-requires Inv-loop μ-loop
-say-number-requires c κs = search needs
+say-number-requires c κs = tt
 
 loop-holds : tie.Need-loop-holds Inv-loop μ-loop
 loop-holds c = search needs
 
 mul-say-row : tie.Need-mul-say-row Inv-loop μ-loop
-mul-say-row c = search needs
+mul-say-row c = omega arith
 
 element-copy-out-say-row : tie.Need-element-copy-out-say-row Inv-loop μ-loop
 element-copy-out-say-row c = search needs
 
 say-row-requires : tie.Need-say-row-requires Inv-loop μ-loop
-say-row-requires c κs = search needs
+say-row-requires c κs = tt
 
 add-i : tie.Need-add-i Inv-loop μ-loop
-add-i c = search needs
+add-i c = omega arith
 
 loop-less : tie.Need-loop-less Inv-loop μ-loop
-loop-less c = search needs
+loop-less c = omega arith
 
 loop-again : tie.Need-loop-again Inv-loop μ-loop
 loop-again c = search needs

@@ -2,7 +2,6 @@
 -- Assumes nothing.
 use denote.Ref.{now}
 use Rattle.requests.proofs.AskLaws.{four-other}
-use borrow.Author.Needs.{needs}
 use Rattle.requests.proofs.asking.ask_four.Statement.{statement}
 use Rattle.requests.proofs.asking.ask_four.Tie as tie
 
@@ -17,19 +16,17 @@ returns-3 c =
     let a = c .before .before .before .before .before .args in
     four-other (a .verb) (now (a .order)) (now (a .at)) (now (a .long)) (now (a .hex)) (c .match .keys3)
 
--- ---- found by search
-
 enum-told : tie.Need-enum-told
-enum-told c = search needs
+enum-told c = c .match .keys1
 
 line-asked-requires : tie.Need-line-asked-requires
-line-asked-requires c κs = search needs
+line-asked-requires c κs = tt
 
 enum-told-2 : tie.Need-enum-told-2
-enum-told-2 c = search needs
+enum-told-2 c = c .match .keys2
 
 line-asked-requires-2 : tie.Need-line-asked-requires-2
-line-asked-requires-2 c κs = search needs
+line-asked-requires-2 c κs = tt
 
 pub ask-four-spec : {M : Type 1} → statement M
 ask-four-spec =

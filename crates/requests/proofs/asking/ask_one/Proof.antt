@@ -2,7 +2,6 @@
 -- Assumes nothing.
 use denote.Ref.{now}
 use Rattle.requests.proofs.AskLaws.{one-other}
-use borrow.Author.Needs.{needs}
 use Rattle.requests.proofs.asking.ask_one.Statement.{statement}
 use Rattle.requests.proofs.asking.ask_one.Tie as tie
 
@@ -12,16 +11,14 @@ returns c = rw (c .close-asked .ensures, c .before .number-of .ensures, c .befor
 returns-2 : tie.Need-returns-2
 returns-2 c = let a = c .before .before .args in one-other (a .verb) (now (a .word)) (c .match .keys2)
 
--- ---- found by search
-
 enum-told : tie.Need-enum-told
-enum-told c = search needs
+enum-told c = c .match .keys1
 
 number-of-requires : tie.Need-number-of-requires
-number-of-requires c κs = search needs
+number-of-requires c κs = tt
 
 close-asked-requires : tie.Need-close-asked-requires
-close-asked-requires c κs = search needs
+close-asked-requires c κs = tt
 
 pub ask-one-spec : {M : Type 1} → statement M
 ask-one-spec =

@@ -1,6 +1,5 @@
 -- `requests::asking::line_asked` meets its contract: the words of a count line's call, each read.
 -- Assumes nothing.
-use borrow.Author.Needs.{needs}
 use Rattle.requests.proofs.asking.line_asked.Statement.{statement}
 use Rattle.requests.proofs.asking.line_asked.Tie as tie
 
@@ -14,22 +13,20 @@ returns c =
       c .before .before .before .before .number-of .ensures,
     )
 
--- ---- found by search
-
 number-of-requires : tie.Need-number-of-requires
-number-of-requires c κs = search needs
+number-of-requires c κs = tt
 
 wide-of-requires : tie.Need-wide-of-requires
-wide-of-requires c κs = search needs
+wide-of-requires c κs = tt
 
 number-of-requires-2 : tie.Need-number-of-requires-2
-number-of-requires-2 c κs = search needs
+number-of-requires-2 c κs = tt
 
 is-bytes-requires : tie.Need-is-bytes-requires
-is-bytes-requires c κs = search needs
+is-bytes-requires c κs = tt
 
 line-numbers-requires : tie.Need-line-numbers-requires
-line-numbers-requires c κs = search needs
+line-numbers-requires c κs = tt
 
 pub line-asked-spec : {M : Type 1} → statement M
 line-asked-spec =

@@ -20,7 +20,12 @@ returns-4 : tie.Need-returns-4
 returns-4 c =
     let long = c .before .before in
     let at = long .before .before .before in
-    rw (at .before .before .before .order .given .1, at .at .given .1, long .long .given .1, lt-leb _ 4096 (c .if1 .taken))
+    rw (
+      at .before .before .before .order .given .1,
+      at .at .given .1,
+      long .long .given .1,
+      lt-leb _ 4096 (c .if1 .taken),
+    )
 
 returns-5 : tie.Need-returns-5
 returns-5 c =
@@ -52,25 +57,25 @@ returns-6 c =
 -- ---- found by search
 
 enum-known-order : tie.Need-enum-known-order
-enum-known-order c = search needs
+enum-known-order c = c .match .keys1
 
 enum-told : tie.Need-enum-told
-enum-told c = search needs
+enum-told c = c .match .keys2
 
 enum-known-at : tie.Need-enum-known-at
-enum-known-at c = search needs
+enum-known-at c = c .match2 .keys1
 
 enum-told-2 : tie.Need-enum-told-2
-enum-told-2 c = search needs
+enum-told-2 c = c .match2 .keys2
 
 enum-known-long : tie.Need-enum-known-long
-enum-known-long c = search needs
+enum-known-long c = c .match3 .keys1
 
 enum-told-3 : tie.Need-enum-told-3
-enum-told-3 c = search needs
+enum-told-3 c = c .match3 .keys2
 
 order-byte-requires : tie.Need-order-byte-requires
-order-byte-requires c κs = search needs
+order-byte-requires c κs = tt
 
 cast-t12 : tie.Need-cast-t12
 cast-t12 c = search needs

@@ -20,19 +20,19 @@ returns-3 c =
 -- ---- found by search
 
 enum-known-slot : tie.Need-enum-known-slot
-enum-known-slot c = search needs
+enum-known-slot c = c .match .keys1
 
 enum-told : tie.Need-enum-told
-enum-told c = search needs
+enum-told c = c .match .keys2
 
 number-of-requires : tie.Need-number-of-requires
-number-of-requires c κs = search needs
+number-of-requires c κs = tt
 
 enum-known-long : tie.Need-enum-known-long
-enum-known-long c = search needs
+enum-known-long c = c .match2 .keys1
 
 enum-told-2 : tie.Need-enum-told-2
-enum-told-2 c = search needs
+enum-told-2 c = c .match2 .keys2
 
 cast-t6 : tie.Need-cast-t6
 cast-t6 c = search needs

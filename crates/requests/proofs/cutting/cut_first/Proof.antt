@@ -24,7 +24,8 @@ returns-2 c =
     let a = wd .before .before .args in
     let line = now (a .line) in
     found-last line (a .from) (wd .word-end .result) (omega arith) (wd .word-end .ensures .0) (a .verb)
-    (λ (ws : List Word). ws) (c .ask-one .result) (c .before .before .if1 .left) refl (c .ask-one .ensures)
+    (λ (ws : List Word). ws) (c .ask-one .result)
+    (c .before .before .if1 .left) refl (c .ask-one .ensures)
 
 -- ---- found by search
 
@@ -32,31 +33,31 @@ word-end-requires : tie.Need-word-end-requires
 word-end-requires c κs = search needs
 
 sub-cut-second : tie.Need-sub-cut-second
-sub-cut-second c = search needs
+sub-cut-second c = omega arith
 
 part-cut-second-start : tie.Need-part-cut-second-start
-part-cut-second-start c = search needs
+part-cut-second-start c = omega arith
 
 part-cut-second-end : tie.Need-part-cut-second-end
-part-cut-second-end c = search needs
+part-cut-second-end c = omega arith
 
 add-cut-second : tie.Need-add-cut-second
-add-cut-second c = search needs
+add-cut-second c = omega arith
 
 cut-second-requires : tie.Need-cut-second-requires
 cut-second-requires c κs = search needs
 
 sub-ask-one : tie.Need-sub-ask-one
-sub-ask-one c = search needs
+sub-ask-one c = omega arith
 
 part-ask-one-start : tie.Need-part-ask-one-start
-part-ask-one-start c = search needs
+part-ask-one-start c = omega arith
 
 part-ask-one-end : tie.Need-part-ask-one-end
-part-ask-one-end c = search needs
+part-ask-one-end c = omega arith
 
 ask-one-requires : tie.Need-ask-one-requires
-ask-one-requires c κs = search needs
+ask-one-requires c κs = tt
 
 pub cut-first-spec : {M : Type 1} → statement M
 cut-first-spec =

@@ -40,19 +40,19 @@ word-end-requires : tie.Need-word-end-requires
 word-end-requires c κs = search needs
 
 no-call-requires : tie.Need-no-call-requires
-no-call-requires c κs = search needs
+no-call-requires c κs = tt
 
 sub-ask-four : tie.Need-sub-ask-four
-sub-ask-four c = search needs
+sub-ask-four c = omega arith
 
 part-ask-four-start : tie.Need-part-ask-four-start
-part-ask-four-start c = search needs
+part-ask-four-start c = omega arith
 
 part-ask-four-end : tie.Need-part-ask-four-end
-part-ask-four-end c = search needs
+part-ask-four-end c = omega arith
 
 ask-four-requires : tie.Need-ask-four-requires
-ask-four-requires c κs = search needs
+ask-four-requires c κs = tt
 
 pub cut-fourth-spec : {M : Type 1} → statement M
 cut-fourth-spec =

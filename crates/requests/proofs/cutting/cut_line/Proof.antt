@@ -27,25 +27,25 @@ word-end-requires : tie.Need-word-end-requires
 word-end-requires c κs = search needs
 
 sub-verb-of : tie.Need-sub-verb-of
-sub-verb-of c = search needs
+sub-verb-of c = omega arith
 
 part-verb-of-start : tie.Need-part-verb-of-start
-part-verb-of-start c = search needs
+part-verb-of-start c = omega arith
 
 part-verb-of-end : tie.Need-part-verb-of-end
-part-verb-of-end c = search needs
+part-verb-of-end c = omega arith
 
 verb-of-requires : tie.Need-verb-of-requires
-verb-of-requires c κs = search needs
+verb-of-requires c κs = tt
 
 add-cut-first : tie.Need-add-cut-first
-add-cut-first c = search needs
+add-cut-first c = omega arith
 
 cut-first-requires : tie.Need-cut-first-requires
 cut-first-requires c κs = search needs
 
 ask-alone-requires : tie.Need-ask-alone-requires
-ask-alone-requires c κs = search needs
+ask-alone-requires c κs = tt
 
 pub cut-line-spec : {M : Type 1} → statement M
 cut-line-spec =

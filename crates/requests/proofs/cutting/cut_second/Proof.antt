@@ -24,7 +24,8 @@ returns-2 c =
     let a = wd .before .before .before .args in
     let line = now (a .line) in
     found-last line (a .from) (wd .word-end .result) (omega arith) (wd .word-end .ensures .0) (a .verb)
-    (λ (ws : List Word). now (a .first) ∷ ws) (c .ask-two .result) (c .before .before .if1 .left) refl (c .ask-two .ensures)
+    (λ (ws : List Word). now (a .first) ∷ ws) (c .ask-two .result)
+    (c .before .before .if1 .left) refl (c .ask-two .ensures)
 
 -- ---- found by search
 
@@ -32,31 +33,31 @@ word-end-requires : tie.Need-word-end-requires
 word-end-requires c κs = search needs
 
 sub-cut-third : tie.Need-sub-cut-third
-sub-cut-third c = search needs
+sub-cut-third c = omega arith
 
 part-cut-third-start : tie.Need-part-cut-third-start
-part-cut-third-start c = search needs
+part-cut-third-start c = omega arith
 
 part-cut-third-end : tie.Need-part-cut-third-end
-part-cut-third-end c = search needs
+part-cut-third-end c = omega arith
 
 add-cut-third : tie.Need-add-cut-third
-add-cut-third c = search needs
+add-cut-third c = omega arith
 
 cut-third-requires : tie.Need-cut-third-requires
 cut-third-requires c κs = search needs
 
 sub-ask-two : tie.Need-sub-ask-two
-sub-ask-two c = search needs
+sub-ask-two c = omega arith
 
 part-ask-two-start : tie.Need-part-ask-two-start
-part-ask-two-start c = search needs
+part-ask-two-start c = omega arith
 
 part-ask-two-end : tie.Need-part-ask-two-end
-part-ask-two-end c = search needs
+part-ask-two-end c = omega arith
 
 ask-two-requires : tie.Need-ask-two-requires
-ask-two-requires c κs = search needs
+ask-two-requires c κs = tt
 
 pub cut-second-spec : {M : Type 1} → statement M
 cut-second-spec =

@@ -37,22 +37,22 @@ word-end-requires : tie.Need-word-end-requires
 word-end-requires c κs = search needs
 
 sub-cut-fourth : tie.Need-sub-cut-fourth
-sub-cut-fourth c = search needs
+sub-cut-fourth c = omega arith
 
 part-cut-fourth-start : tie.Need-part-cut-fourth-start
-part-cut-fourth-start c = search needs
+part-cut-fourth-start c = omega arith
 
 part-cut-fourth-end : tie.Need-part-cut-fourth-end
-part-cut-fourth-end c = search needs
+part-cut-fourth-end c = omega arith
 
 add-cut-fourth : tie.Need-add-cut-fourth
-add-cut-fourth c = search needs
+add-cut-fourth c = omega arith
 
 cut-fourth-requires : tie.Need-cut-fourth-requires
 cut-fourth-requires c κs = search needs
 
 no-call-requires : tie.Need-no-call-requires
-no-call-requires c κs = search needs
+no-call-requires c κs = tt
 
 pub cut-third-spec : {M : Type 1} → statement M
 cut-third-spec =

@@ -5,7 +5,6 @@ use mathlib.Core.Bool.{true, false}
 use native.Mathlib.Omega.{arith}
 use denote.Ref.{now}
 use Rattle.requests.proofs.CutLaws.{asked-nothing, asked-comment, asked-words, hands-none, hands-some}
-use borrow.Author.Needs.{needs}
 use Rattle.requests.proofs.cutting.find.Statement.{statement}
 use Rattle.requests.proofs.cutting.find.Tie as tie
 
@@ -34,16 +33,14 @@ returns-4 c =
     hands-none line _ (cut .cut-line .ensures .asks-for ∙ asked-words line (omega arith) (cut .before .if2 .left)) _
     refl (sym (c .before .hands-over .ensures) ∙ c .if3 .left)
 
--- ---- found by search
-
 shared-slice-read-if2 : tie.Need-shared-slice-read-if2
-shared-slice-read-if2 c = search needs
+shared-slice-read-if2 c = omega arith
 
 cut-line-requires : tie.Need-cut-line-requires
-cut-line-requires c κs = search needs
+cut-line-requires c κs = tt
 
 hands-over-requires : tie.Need-hands-over-requires
-hands-over-requires c κs = search needs
+hands-over-requires c κs = tt
 
 pub find-spec : {M : Type 1} → statement M
 find-spec =

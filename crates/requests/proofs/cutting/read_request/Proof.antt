@@ -16,7 +16,7 @@ returns c =
 -- ---- found by search
 
 find-requires : tie.Need-find-requires
-find-requires c κs = search needs
+find-requires c κs = tt
 
 unhex-requires : tie.Need-unhex-requires
 unhex-requires c κs = search needs

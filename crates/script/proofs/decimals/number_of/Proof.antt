@@ -22,7 +22,7 @@ returns-3 c =
 -- ---- found by search
 
 read-number-requires : tie.Need-read-number-requires
-read-number-requires c κs = search needs
+read-number-requires c κs = tt
 
 enum-known-read : tie.Need-enum-known-read
 enum-known-read c = search needs

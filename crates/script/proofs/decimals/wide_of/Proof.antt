@@ -15,7 +15,6 @@ use Rattle.script.specs.declared.Wide.the-variants as wide
 use Rattle.script.specs.Decimals.{mostWide, digitOf}
 use Rattle.script.proofs.DecimalLaws.{wide-empty, wide-long, wide-no, wide-is, wide-high, digit-told, digit-not}
 use Rattle.script.proofs.DecimalLaws.{decimal-grows}
-use borrow.Author.Needs.{needs}
 use Rattle.script.proofs.decimals.wide_of.Statement.{statement}
 use Rattle.script.proofs.decimals.wide_of.Tie as tie
 
@@ -98,28 +97,26 @@ returns-5 c =
     ∙ wide-is w (few .before .if1 .left) (few .if2 .left)
     (l .loop .inv .2 ∙ each-ends ℕ isDigit w i 0 (omega arith)) (omega (arith, all, l .loop .inv .1))
 
--- ---- found by search
-
 shared-slice-read-digit : tie.Need-shared-slice-read-digit Inv-loop μ-loop
-shared-slice-read-digit c = search needs
+shared-slice-read-digit c = omega arith
 
 digit-requires : tie.Need-digit-requires Inv-loop μ-loop
-digit-requires c κs = search needs
+digit-requires c κs = tt
 
 sub-if4 : tie.Need-sub-if4 Inv-loop μ-loop
-sub-if4 c = search needs
+sub-if4 c = omega arith
 
 mul-n : tie.Need-mul-n Inv-loop μ-loop
-mul-n c = search needs
+mul-n c = omega arith
 
 add-n : tie.Need-add-n Inv-loop μ-loop
-add-n c = search needs
+add-n c = omega arith
 
 add-i : tie.Need-add-i Inv-loop μ-loop
-add-i c = search needs
+add-i c = omega arith
 
 loop-less : tie.Need-loop-less Inv-loop μ-loop
-loop-less c = search needs
+loop-less c = omega arith
 
 pub wide-of-spec : {M : Type 1} → statement M
 wide-of-spec =

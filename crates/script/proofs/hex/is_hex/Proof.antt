@@ -9,7 +9,6 @@ use Rattle.prelude.specs.Each.{each}
 use Rattle.prelude.proofs.Each.{each-ends, each-fails, each-on}
 use Rattle.script.specs.Hex.{isNibble}
 use Rattle.script.proofs.HexLaws.{hex-empty, hex-odd, hex-each, is-nibble, no-nibble}
-use borrow.Author.Needs.{needs}
 use Rattle.script.proofs.hex.is_hex.Statement.{statement}
 use Rattle.script.proofs.hex.is_hex.Tie as tie
 
@@ -54,19 +53,17 @@ returns-4 c =
     sym (l .loop .inv .1 ∙ each-ends ℕ isNibble w (l .loop .i) 0 (omega arith))
     ∙ hex-each w (even .before .if1 .left) (even .if2 .left)
 
--- ---- found by search
-
 shared-slice-read-nibble : tie.Need-shared-slice-read-nibble Inv-loop μ-loop
-shared-slice-read-nibble c = search needs
+shared-slice-read-nibble c = omega arith
 
 nibble-requires : tie.Need-nibble-requires Inv-loop μ-loop
-nibble-requires c κs = search needs
+nibble-requires c κs = tt
 
 add-i : tie.Need-add-i Inv-loop μ-loop
-add-i c = search needs
+add-i c = omega arith
 
 loop-less : tie.Need-loop-less Inv-loop μ-loop
-loop-less c = search needs
+loop-less c = omega arith
 
 pub is-hex-spec : {M : Type 1} → statement M
 is-hex-spec =

@@ -2,7 +2,6 @@
 -- Assumes nothing.
 use native.Mathlib.Omega.{arith}
 use Rattle.script.proofs.HexLaws.{nibble-digit, nibble-low, nibble-between, nibble-letter, nibble-high}
-use borrow.Author.Needs.{needs}
 use Rattle.script.proofs.hex.nibble.Statement.{statement}
 use Rattle.script.proofs.hex.nibble.Tie as tie
 
@@ -21,10 +20,8 @@ returns-4 c = (nibble-between _ (omega arith) (c .if3 .taken), omega arith)
 returns-5 : tie.Need-returns-5
 returns-5 c = (nibble-high _ (omega arith) (c .before .if3 .left) (omega arith), omega arith)
 
--- ---- found by search
-
 add-result : tie.Need-add-result
-add-result c = search needs
+add-result c = omega arith
 
 pub nibble-spec : {M : Type 1} → statement M
 nibble-spec = tie.close (tie.spec add-result returns returns-2 returns-3 returns-4 returns-5)

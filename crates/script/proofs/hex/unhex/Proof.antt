@@ -52,37 +52,37 @@ returns c =
 -- ---- found by search
 
 sub-half : tie.Need-sub-half Inv-loop μ-loop
-sub-half c = search needs
+sub-half c = omega arith
 
 half-requires : tie.Need-half-requires Inv-loop μ-loop
-half-requires c κs = search needs
+half-requires c κs = tt
 
 mul-at : tie.Need-mul-at Inv-loop μ-loop
-mul-at c = search needs
+mul-at c = omega arith
 
 add-at : tie.Need-add-at Inv-loop μ-loop
-add-at c = search needs
+add-at c = omega arith
 
 slice-read-byte-of : tie.Need-slice-read-byte-of Inv-loop μ-loop
-slice-read-byte-of c = search needs
+slice-read-byte-of c = omega arith
 
 add-byte-of : tie.Need-add-byte-of Inv-loop μ-loop
-add-byte-of c = search needs
+add-byte-of c = omega arith
 
 slice-read-byte-of-2 : tie.Need-slice-read-byte-of-2 Inv-loop μ-loop
-slice-read-byte-of-2 c = search needs
+slice-read-byte-of-2 c = omega arith
 
 byte-of-requires : tie.Need-byte-of-requires Inv-loop μ-loop
-byte-of-requires c κs = search needs
+byte-of-requires c κs = tt
 
 slice-write-line : tie.Need-slice-write-line Inv-loop μ-loop
-slice-write-line c = search needs
+slice-write-line c = omega arith
 
 add-i : tie.Need-add-i Inv-loop μ-loop
-add-i c = search needs
+add-i c = omega arith
 
 loop-less : tie.Need-loop-less Inv-loop μ-loop
-loop-less c = search needs
+loop-less c = omega arith
 
 same-length : tie.Need-same-length Inv-loop μ-loop
 same-length c = search needs

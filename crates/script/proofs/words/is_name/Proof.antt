@@ -7,7 +7,6 @@ use lib.ListN.{length, drop}
 use denote.Ref.{now}
 use Rattle.script.specs.Words.{same}
 use Rattle.script.proofs.WordLaws.{same-long, same-ends, same-fails, same-on}
-use borrow.Author.Needs.{needs}
 use Rattle.script.proofs.words.is_name.Statement.{statement}
 use Rattle.script.proofs.words.is_name.Tie as tie
 
@@ -38,19 +37,17 @@ returns-3 c =
     let l = c .before in
     sym (l .loop .inv .1 ∙ same-ends _ _ (l .loop .i) (omega arith) (omega arith))
 
--- ---- found by search
-
 shared-slice-read-if2 : tie.Need-shared-slice-read-if2 Inv-loop μ-loop
-shared-slice-read-if2 c = search needs
+shared-slice-read-if2 c = omega arith
 
 shared-slice-read-if2-2 : tie.Need-shared-slice-read-if2-2 Inv-loop μ-loop
-shared-slice-read-if2-2 c = search needs
+shared-slice-read-if2-2 c = omega arith
 
 add-i : tie.Need-add-i Inv-loop μ-loop
-add-i c = search needs
+add-i c = omega arith
 
 loop-less : tie.Need-loop-less Inv-loop μ-loop
-loop-less c = search needs
+loop-less c = omega arith
 
 pub is-name-spec : {M : Type 1} → statement M
 is-name-spec =

@@ -7,7 +7,6 @@ use lib.ListN.{length, drop}
 use denote.Ref.{now}
 use Rattle.script.specs.Words.{wordLength, wordEnd}
 use Rattle.script.proofs.WordLaws.{length-ends, length-stops, length-on}
-use borrow.Author.Needs.{needs}
 use Rattle.script.proofs.words.word_end.Statement.{statement}
 use Rattle.script.proofs.words.word_end.Tie as tie
 
@@ -24,8 +23,11 @@ loop-holds c = (omega arith, omega arith, refl)
 returns : tie.Need-returns Inv-loop μ-loop
 returns c =
     let l = c .before .before .before in
-    let line = now (l .before .args .line) in
-    (omega (arith, l .loop .inv .2, length-stops line (l .loop .i) (omega arith) (c .if1 .taken)), omega arith, omega arith)
+    let line = now (l .before .args .line) in (
+      omega (arith, l .loop .inv .2, length-stops line (l .loop .i) (omega arith) (c .if1 .taken)),
+      omega arith,
+      omega arith,
+    )
 
 loop-again : tie.Need-loop-again Inv-loop μ-loop
 loop-again c =
@@ -42,16 +44,14 @@ returns-2 c =
     let line = now (l .before .args .line) in
     (omega (arith, l .loop .inv .2, length-ends line (l .loop .i) (omega arith)), omega arith, omega arith)
 
--- ---- found by search
-
 shared-slice-read-if1 : tie.Need-shared-slice-read-if1 Inv-loop μ-loop
-shared-slice-read-if1 c = search needs
+shared-slice-read-if1 c = omega arith
 
 add-i : tie.Need-add-i Inv-loop μ-loop
-add-i c = search needs
+add-i c = omega arith
 
 loop-less : tie.Need-loop-less Inv-loop μ-loop
-loop-less c = search needs
+loop-less c = omega arith
 
 pub word-end-spec : {M : Type 1} → statement M
 word-end-spec =

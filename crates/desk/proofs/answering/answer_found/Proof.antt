@@ -1,0 +1,46 @@
+-- `desk::answering::answer_found` is safe and ends.
+-- Assumes nothing.
+use borrow.Author.Needs.{needs}
+use Rattle.desk.proofs.answering.answer_found.Statement.{statement}
+use Rattle.desk.proofs.answering.answer_found.Tie as tie
+
+enum-told : tie.Need-enum-told
+enum-told c = c .match .keys1
+
+answer-line-requires : tie.Need-answer-line-requires
+answer-line-requires c κs = tt
+
+enum-told-2 : tie.Need-enum-told-2
+enum-told-2 c = c .match .keys2
+
+no-call-requires : tie.Need-no-call-requires
+no-call-requires c κs = tt
+
+enum-told-3 : tie.Need-enum-told-3
+enum-told-3 c = c .match .keys3
+
+same-length : tie.Need-same-length
+same-length c = search needs
+
+returns : tie.Need-returns
+returns c = search needs
+
+returns-2 : tie.Need-returns-2
+returns-2 c = search needs
+
+returns-3 : tie.Need-returns-3
+returns-3 c = search needs
+
+pub answer-found-spec : {M : Type 1} → statement M
+answer-found-spec =
+    tie.close
+    (tie.spec
+    enum-told
+    answer-line-requires
+    enum-told-2
+    no-call-requires
+    enum-told-3
+    same-length
+    returns
+    returns-2
+    returns-3)
