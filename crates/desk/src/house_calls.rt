@@ -22,33 +22,33 @@ fn say_row(row: Row) {
 }
 
 // How many rows there are, and the rows.
-fn say_rows(done: Played)
-    requires { ⌜ done .count ≤ 1024 ⌝ }
+fn say_rows(rows: [Row; 1024], count: usize)
+    requires { ⌜ count ≤ 1024 ⌝ }
 {
-    let rows = done.count;
     say(b" ");
-    say_number(rows as u64);
+    say_number(count as u64);
     let mut i: usize = 0;
-    while i < rows {
-        say_row(done.rows[i]);
+    while i < count {
+        say_row(rows[i]);
         i += 1;
     }
 }
 
-fn say_figures(done: Played) {
+fn say_figures(free: u32, promised: u32) {
     say(b" ");
-    say_number(done.free as u64);
+    say_number(free as u64);
     say(b" ");
-    say_number(done.promised as u64);
+    say_number(promised as u64);
 }
 
 // What a call that is done found, if it asked for something.
 fn say_found(call: Call, done: Played)
     requires { ⌜ done .count ≤ 1024 ⌝ }
 {
+    let rows = done.rows;
     match call {
-        Call::Report(_, _) => say_rows(done),
-        Call::Figures => say_figures(done),
+        Call::Report(_, _) => say_rows(rows, done.count),
+        Call::Figures => say_figures(done.free, done.promised),
         _ => say(b""),
     }
 }

@@ -19,7 +19,6 @@
 // `?`, one with a LENGTH above 4,096 among them. What a line asks for is the crate requests' to say; here it is played,
 // and what came back is written.
 mod answering;
-mod count_lines;
 mod house_calls;
 
 fn main() {

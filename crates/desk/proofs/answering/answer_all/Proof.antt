@@ -1,23 +1,14 @@
 -- `desk::answering::answer_all` ends: the measure is the number of turns that are left.
 -- Assumes nothing.
 use borrow.Author.Needs.{needs}
-use native.Mathlib.Omega.{arith}
 use Rattle.desk.proofs.answering.answer_all.Statement.{statement}
 use Rattle.desk.proofs.answering.answer_all.Tie as tie
 
 abbrev Inv-loop : tie.InvT-loop
-Inv-loop chunk₀ line₀ desk₀ turns₀ chunk line desk turns = Unit {0}
+Inv-loop chunk₀ line₀ house₀ input₀ going₀ turns₀ chunk line house input going turns = Unit {0}
 
 abbrev μ-loop : tie.MeasureT-loop
-μ-loop chunk₀ line₀ desk₀ turns₀ chunk line desk turns = turns
-
-loop-holds : tie.Need-loop-holds Inv-loop μ-loop
-loop-holds c = tt
-
-loop-again : tie.Need-loop-again Inv-loop μ-loop
-loop-again c = tt
-
--- ---- found by search
+μ-loop chunk₀ line₀ house₀ input₀ going₀ turns₀ chunk line house input going turns = turns
 
 large-buffer-requires : tie.Need-large-buffer-requires Inv-loop μ-loop
 large-buffer-requires c κs = tt
@@ -31,17 +22,41 @@ line-buffer-requires c κs = tt
 slice-aggregate-line : tie.Need-slice-aggregate-line Inv-loop μ-loop
 slice-aggregate-line c = search needs
 
-begin-desk-requires : tie.Need-begin-desk-requires Inv-loop μ-loop
-begin-desk-requires c κs = tt
+fresh-requires : tie.Need-fresh-requires Inv-loop μ-loop
+fresh-requires c κs = tt
 
-answer-next-requires : tie.Need-answer-next-requires Inv-loop μ-loop
-answer-next-requires c κs = tt
+begin-requires : tie.Need-begin-requires Inv-loop μ-loop
+begin-requires c κs = tt
+
+loop-holds : tie.Need-loop-holds Inv-loop μ-loop
+loop-holds c = tt
+
+next-line-requires : tie.Need-next-line-requires Inv-loop μ-loop
+next-line-requires c κs = tt
+
+sub-answer-found : tie.Need-sub-answer-found Inv-loop μ-loop
+sub-answer-found c = search needs
+
+part-answer-found-start : tie.Need-part-answer-found-start Inv-loop μ-loop
+part-answer-found-start c = search needs
+
+part-answer-found-end : tie.Need-part-answer-found-end Inv-loop μ-loop
+part-answer-found-end c = search needs
+
+answer-found-requires : tie.Need-answer-found-requires Inv-loop μ-loop
+answer-found-requires c κs = tt
+
+goes-on-requires : tie.Need-goes-on-requires Inv-loop μ-loop
+goes-on-requires c κs = tt
 
 sub-turns : tie.Need-sub-turns Inv-loop μ-loop
-sub-turns c = omega arith
+sub-turns c = search needs
 
 loop-less : tie.Need-loop-less Inv-loop μ-loop
-loop-less c = omega arith
+loop-less c = search needs
+
+loop-again : tie.Need-loop-again Inv-loop μ-loop
+loop-again c = tt
 
 returns : tie.Need-returns Inv-loop μ-loop
 returns c = search needs
@@ -59,9 +74,15 @@ answer-all-spec =
     slice-aggregate-chunk
     line-buffer-requires
     slice-aggregate-line
-    begin-desk-requires
+    fresh-requires
+    begin-requires
     loop-holds
-    answer-next-requires
+    next-line-requires
+    sub-answer-found
+    part-answer-found-start
+    part-answer-found-end
+    answer-found-requires
+    goes-on-requires
     sub-turns
     loop-less
     loop-again

@@ -1,23 +1,27 @@
 -- `desk::answering::answer_found` is safe and ends.
 -- Assumes nothing.
+use mathlib.Core.Path.{refl}
 use borrow.Author.Needs.{needs}
 use Rattle.desk.proofs.answering.answer_found.Statement.{statement}
 use Rattle.desk.proofs.answering.answer_found.Tie as tie
 
 enum-told : tie.Need-enum-told
-enum-told c = c .match .keys1
+enum-told c = search needs
 
 answer-line-requires : tie.Need-answer-line-requires
 answer-line-requires c κs = tt
 
 enum-told-2 : tie.Need-enum-told-2
-enum-told-2 c = c .match .keys2
+enum-told-2 c = search needs
 
-no-call-requires : tie.Need-no-call-requires
-no-call-requires c κs = tt
+slice-aggregate-say : tie.Need-slice-aggregate-say
+slice-aggregate-say c = refl
+
+say-requires : tie.Need-say-requires
+say-requires c κs = tt
 
 enum-told-3 : tie.Need-enum-told-3
-enum-told-3 c = c .match .keys3
+enum-told-3 c = search needs
 
 same-length : tie.Need-same-length
 same-length c = search needs
@@ -38,7 +42,8 @@ answer-found-spec =
     enum-told
     answer-line-requires
     enum-told-2
-    no-call-requires
+    slice-aggregate-say
+    say-requires
     enum-told-3
     same-length
     returns

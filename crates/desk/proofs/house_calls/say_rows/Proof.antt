@@ -3,17 +3,14 @@
 use mathlib.Core.Path.{refl}
 use Prim.Native.Nat.{_-_, _≤_}
 use borrow.Author.Needs.{needs}
-use native.Mathlib.Omega.{arith}
 use Rattle.desk.proofs.house_calls.say_rows.Statement.{statement}
 use Rattle.desk.proofs.house_calls.say_rows.Tie as tie
 
 abbrev Inv-loop : tie.InvT-loop
-Inv-loop done rows i₀ i = i ≤ rows
+Inv-loop count rows i₀ i = i ≤ count
 
 abbrev μ-loop : tie.MeasureT-loop
-μ-loop done rows i₀ i = rows - i
-
--- ---- found by search
+μ-loop count rows i₀ i = count - i
 
 slice-aggregate-say : tie.Need-slice-aggregate-say Inv-loop μ-loop
 slice-aggregate-say c = refl
@@ -28,19 +25,19 @@ loop-holds : tie.Need-loop-holds Inv-loop μ-loop
 loop-holds c = search needs
 
 mul-say-row : tie.Need-mul-say-row Inv-loop μ-loop
-mul-say-row c = omega arith
+mul-say-row c = search needs
 
-element-copy-out-say-row : tie.Need-element-copy-out-say-row Inv-loop μ-loop
-element-copy-out-say-row c = search needs
+array-copy-out-say-row : tie.Need-array-copy-out-say-row Inv-loop μ-loop
+array-copy-out-say-row c = search needs
 
 say-row-requires : tie.Need-say-row-requires Inv-loop μ-loop
 say-row-requires c κs = tt
 
 add-i : tie.Need-add-i Inv-loop μ-loop
-add-i c = omega arith
+add-i c = search needs
 
 loop-less : tie.Need-loop-less Inv-loop μ-loop
-loop-less c = omega arith
+loop-less c = search needs
 
 loop-again : tie.Need-loop-again Inv-loop μ-loop
 loop-again c = search needs
@@ -59,7 +56,7 @@ say-rows-spec =
     say-number-requires
     loop-holds
     mul-say-row
-    element-copy-out-say-row
+    array-copy-out-say-row
     say-row-requires
     add-i
     loop-less

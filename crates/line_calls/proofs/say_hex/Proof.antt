@@ -1,9 +1,9 @@
--- `desk::count_lines::say_hex` is safe and ends.
+-- `line_calls::say_hex` is safe and ends.
 -- Assumes nothing.
 use native.Mathlib.Omega.{arith}
 use borrow.Author.Needs.{needs}
-use Rattle.desk.proofs.count_lines.say_hex.Statement.{statement}
-use Rattle.desk.proofs.count_lines.say_hex.Tie as tie
+use Rattle.line_calls.proofs.say_hex.Statement.{statement}
+use Rattle.line_calls.proofs.say_hex.Tie as tie
 
 lay-hex-requires : tie.Need-lay-hex-requires
 lay-hex-requires c κs = search needs

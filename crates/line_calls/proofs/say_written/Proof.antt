@@ -1,9 +1,9 @@
--- `desk::count_lines::say_written` is safe and ends.
+-- `line_calls::say_written` is safe and ends.
 -- Assumes nothing.
 use mathlib.Core.Path.{refl}
 use borrow.Author.Needs.{needs}
-use Rattle.desk.proofs.count_lines.say_written.Statement.{statement}
-use Rattle.desk.proofs.count_lines.say_written.Tie as tie
+use Rattle.line_calls.proofs.say_written.Statement.{statement}
+use Rattle.line_calls.proofs.say_written.Tie as tie
 
 enum-known-written : tie.Need-enum-known-written
 enum-known-written c = c .match .keys1

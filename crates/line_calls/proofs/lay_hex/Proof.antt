@@ -1,12 +1,12 @@
--- `desk::count_lines::lay_hex` ends, and stays within both slices.
+-- `line_calls::lay_hex` ends, and stays within both slices.
 -- Assumes nothing.
 use mathlib.Core.Path.{_≡_}
 use Prim.Native.Nat.{_-_, _*_, _≤_}
 use lib.ListN.{length}
 use borrow.Author.Needs.{needs}
 use native.Mathlib.Omega.{arith}
-use Rattle.desk.proofs.count_lines.lay_hex.Statement.{statement}
-use Rattle.desk.proofs.count_lines.lay_hex.Tie as tie
+use Rattle.line_calls.proofs.lay_hex.Statement.{statement}
+use Rattle.line_calls.proofs.lay_hex.Tie as tie
 
 abbrev Inv-loop : tie.InvT-loop
 Inv-loop out text₀ i₀ text i = (i ≤ 2 * length out) × (8192 ≡ length text)

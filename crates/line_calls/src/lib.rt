@@ -1,6 +1,6 @@
-// The calls on count lines: `write`, a record to its line, and `read`, a line to its record; and what is written of
-// them. Document 01, "Count lines".
-use house::House;
+// The calls on count lines as the desk makes them: `write`, a record to its line, and `read`, a line to its record; and
+// what is written of them. Document 01, "Count lines". No contract can say what is written to standard output, so nothing
+// is promised here but safety.
 use output::Written;
 use requests::Way;
 use transcript::say;
@@ -98,18 +98,10 @@ fn show_call(way: Way, order: u8, bytes: &[u8], out: &mut [u8], at: usize)
 }
 
 // Lends `long` bytes: no request asks for more than there are.
-pub(crate) fn line_call(
-    house: House,
-    way: Way,
-    order: u8,
-    at: usize,
-    long: usize,
-    bytes: &[u8],
-) -> House {
+pub fn line_call(way: Way, order: u8, at: usize, long: usize, bytes: &[u8]) {
     let mut space = lent();
     let all: &mut [u8] = &mut space;
     if long <= LONGEST {
         show_call(way, order, bytes, &mut all[0..long], at);
     }
-    house
 }

@@ -1,9 +1,9 @@
--- `desk::count_lines::say_lent` is safe and ends.
+-- `line_calls::say_lent` is safe and ends.
 -- Assumes nothing.
 use mathlib.Core.Path.{refl}
 use borrow.Author.Needs.{needs}
-use Rattle.desk.proofs.count_lines.say_lent.Statement.{statement}
-use Rattle.desk.proofs.count_lines.say_lent.Tie as tie
+use Rattle.line_calls.proofs.say_lent.Statement.{statement}
+use Rattle.line_calls.proofs.say_lent.Tie as tie
 
 slice-aggregate-say : tie.Need-slice-aggregate-say
 slice-aggregate-say c = refl

@@ -1,8 +1,8 @@
--- `desk::count_lines::called` is safe and ends.
+-- `line_calls::called` is safe and ends.
 -- Assumes nothing.
 use borrow.Author.Needs.{needs}
-use Rattle.desk.proofs.count_lines.called.Statement.{statement}
-use Rattle.desk.proofs.count_lines.called.Tie as tie
+use Rattle.line_calls.proofs.called.Statement.{statement}
+use Rattle.line_calls.proofs.called.Tie as tie
 
 enum-told : tie.Need-enum-told
 enum-told c = c .match .keys1

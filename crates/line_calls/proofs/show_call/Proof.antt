@@ -1,9 +1,9 @@
--- `desk::count_lines::show_call` is safe and ends.
+-- `line_calls::show_call` is safe and ends.
 -- Assumes nothing.
 use mathlib.Core.Path.{refl}
 use borrow.Author.Needs.{needs}
-use Rattle.desk.proofs.count_lines.show_call.Statement.{statement}
-use Rattle.desk.proofs.count_lines.show_call.Tie as tie
+use Rattle.line_calls.proofs.show_call.Statement.{statement}
+use Rattle.line_calls.proofs.show_call.Tie as tie
 
 called-requires : tie.Need-called-requires
 called-requires c κs = tt

@@ -1,9 +1,9 @@
--- `desk::count_lines::line_call` is safe and ends.
+-- `line_calls::line_call` is safe and ends.
 -- Assumes nothing.
 use native.Mathlib.Omega.{arith}
 use borrow.Author.Needs.{needs}
-use Rattle.desk.proofs.count_lines.line_call.Statement.{statement}
-use Rattle.desk.proofs.count_lines.line_call.Tie as tie
+use Rattle.line_calls.proofs.line_call.Statement.{statement}
+use Rattle.line_calls.proofs.line_call.Tie as tie
 
 lent-requires : tie.Need-lent-requires
 lent-requires c κs = tt
