@@ -44,4 +44,19 @@ returns-6 : tie.Need-returns-6
 returns-6 c = search needs
 
 pub hands-over-spec : {M : Type 1} → statement M
-hands-over-spec = tie.close (tie.spec enum-told enum-told-2 enum-told-3 enum-known-asked takes-record-requires enum-told-4 enum-told-5 returns returns-2 returns-3 returns-4 returns-5 returns-6)
+hands-over-spec =
+    tie.close
+    (tie.spec
+    enum-told
+    enum-told-2
+    enum-told-3
+    enum-known-asked
+    takes-record-requires
+    enum-told-4
+    enum-told-5
+    returns
+    returns-2
+    returns-3
+    returns-4
+    returns-5
+    returns-6)

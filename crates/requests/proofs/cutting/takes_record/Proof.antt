@@ -35,4 +35,16 @@ returns-5 : tie.Need-returns-5
 returns-5 c = search needs
 
 pub takes-record-spec : {M : Type 1} → statement M
-takes-record-spec = tie.close (tie.spec enum-told enum-told-2 enum-told-3 enum-told-4 enum-told-5 returns returns-2 returns-3 returns-4 returns-5)
+takes-record-spec =
+    tie.close
+    (tie.spec
+    enum-told
+    enum-told-2
+    enum-told-3
+    enum-told-4
+    enum-told-5
+    returns
+    returns-2
+    returns-3
+    returns-4
+    returns-5)
