@@ -1,10 +1,10 @@
 -- The statements of specs/Plays.antt, proved; and a report by value as the rows that a sequence of calls lists.
 -- Assumes nothing.
 use mathlib.Core.Path.{_≡_, refl, ap, sym, _∙_}
-use mathlib.Core.List.{List, [], _∷_, _++_}
+use mathlib.Core.List.{List, _++_}
 use Prim.Native.Nat.{ℕ, zero, suc, _≤_}
 use native.Mathlib.Omega.{arith}
-use lib.ListN.{length, take, drop, set, length-append}
+use lib.ListN.{length, drop, length-append}
 use lib.Seq.{drop-cons, set-at, take-append-seam, append-snoc}
 use Rattle.house.specs.declared.House.{House}
 use Rattle.house.specs.declared.Row.{Row}

@@ -1,10 +1,10 @@
 -- `requests::cutting::cut_fourth` meets its contract: behind a fourth word there is no other.
 -- Assumes nothing.
 use mathlib.Core.Path.{refl}
-use mathlib.Core.List.{List, [], _∷_}
+use mathlib.Core.List.{List, _∷_}
 use Prim.Native.Nat.{_-_, _+_}
 use native.Mathlib.Omega.{arith}
-use lib.ListN.{length, take, drop}
+use lib.ListN.{take, drop}
 use denote.Ref.{now}
 use Rattle.requests.specs.Asked.{Word}
 use Rattle.script.proofs.WordLaws.{cut-more}

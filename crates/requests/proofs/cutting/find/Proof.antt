@@ -1,7 +1,6 @@
 -- `requests::cutting::find` meets its contract: each return is one case of `asked`.
 -- Assumes nothing.
-use mathlib.Core.Path.{_≡_, refl, sym, _∙_}
-use mathlib.Core.Bool.{true, false}
+use mathlib.Core.Path.{refl, sym, _∙_}
 use native.Mathlib.Omega.{arith}
 use denote.Ref.{now}
 use Rattle.requests.proofs.CutLaws.{asked-nothing, asked-comment, asked-words, hands-none, hands-some}

@@ -12,7 +12,7 @@ use Rattle.prelude.proofs.Each.{each-ends, each-fails, each-on}
 use Rattle.digits.specs.Digits.{isDigit, decimal, decimalFrom}
 use Rattle.digits.proofs.Laws.{decimal-on, decimal-ends}
 use Rattle.script.specs.declared.Wide.the-variants as wide
-use Rattle.script.specs.Decimals.{mostWide, digitOf}
+use Rattle.script.specs.Decimals.{mostWide}
 use Rattle.script.proofs.DecimalLaws.{wide-empty, wide-long, wide-no, wide-is, wide-high, digit-told, digit-not}
 use Rattle.script.proofs.DecimalLaws.{decimal-grows}
 use Rattle.script.proofs.decimals.wide_of.Statement.{statement}

@@ -1,13 +1,13 @@
 -- `script::hex::unhex` meets its contract: at each turn the first bytes are laid over the line, and what is still to be
 -- read stands behind them.
 -- Assumes nothing.
-use mathlib.Core.Path.{_≡_, refl, sym, ap, _∙_}
+use mathlib.Core.Path.{_≡_, refl, _∙_}
 use Prim.Native.Nat.{_-_, _/_, _≤_}
 use native.Mathlib.Omega.{arith}
 use lib.ListN.{length, take, drop, length-set, length-drop}
 use denote.Ref.{now}
 use Rattle.numbers.specs.Numbers.{over}
-use Rattle.script.specs.Hex.{byteOf, bytesOf}
+use Rattle.script.specs.Hex.{bytesOf}
 use Rattle.script.proofs.HexLaws.{bytes-half, laid-byte, laid-all}
 use borrow.Author.Needs.{needs}
 use Rattle.script.proofs.hex.unhex.Statement.{statement}
