@@ -1,5 +1,4 @@
--- Laws of lines: the byte that comes next ends the line, or is one more of it; a part that is laid stays within its
--- line.
+-- Laws of lines: the next byte stops, or is one more; a part that is laid stays within its line.
 -- Assumes nothing.
 use mathlib.Core.Path.{_≡_, refl, sym, ap}
 use mathlib.Core.Bool.{Bool, true, false}
@@ -16,21 +15,21 @@ use Rattle.output.specs.declared.Written.the-variants.{Bytes}
 use Rattle.answers.specs.declared.Answer.the-variants.{OutputTooShort}
 use Rattle.output.specs.Placed.{Outcome, outcome, placedAt}
 use Rattle.output.proofs.Laws.{refused-bytes}
-use Rattle.input.specs.Lines.{lineFeed, lineOf}
+use Rattle.input.specs.Lines.{upTo}
 
-module _ (s : List ℕ) (i : ℕ) where
-  pub line-none : length s ≤ i → length (lineOf (drop i s)) ≡ 0
-  unfolding lineOf
-  line-none past = rw (drop-of-length-le s {i = i} past)
+module _ (stop : ℕ) (s : List ℕ) (i : ℕ) where
+  pub up-to-none : length s ≤ i → length (upTo stop (drop i s)) ≡ 0
+  unfolding upTo
+  up-to-none past = rw (drop-of-length-le s {i = i} past)
 
   module _ (within : i < length s) where
-    pub line-stops : getD s i 0 ≡ lineFeed → length (lineOf (drop i s)) ≡ 0
-    unfolding lineOf
-    line-stops is = rw (drop-cons s i 0 within, eq-eqb (getD s i 0) lineFeed is)
+    pub up-to-stops : getD s i 0 ≡ stop → length (upTo stop (drop i s)) ≡ 0
+    unfolding upTo
+    up-to-stops is = rw (drop-cons s i 0 within, eq-eqb (getD s i 0) stop is)
 
-    pub line-goes : (getD s i 0 ≡ lineFeed → ⊥) → length (lineOf (drop i s)) ≡ 1 + length (lineOf (drop (i + 1) s))
-    unfolding lineOf
-    line-goes is = rw (drop-cons s i 0 within, ne-eqb (getD s i 0) lineFeed is, add-one i) (omega arith)
+    pub up-to-goes : (getD s i 0 ≡ stop → ⊥) → length (upTo stop (drop i s)) ≡ 1 + length (upTo stop (drop (i + 1) s))
+    unfolding upTo
+    up-to-goes is = rw (drop-cons s i 0 within, ne-eqb (getD s i 0) stop is, add-one i) (omega arith)
 
 pub placed-within : (bytes old : List ℕ) (at : ℕ) (written : Written) (new : List ℕ) (n : ℕ)
     → outcome written new ≡ placedAt bytes old at → written ≡ Bytes n → at + n ≤ length old

@@ -8,7 +8,7 @@ ghost use mathlib.Core.Path.{_≡_};
 ghost use Prim.Native.Nat.{_≤_};
 ghost use lib.ListN.{length};
 ghost use Rattle.output.specs.Placed.{outcome, placedAt};
-ghost use Rattle.input.specs.Lines.{lineOf};
+ghost use Rattle.input.specs.Lines.{upTo};
 
 // Of the first `got` bytes of the chunk the last `left` are still to be taken.
 pub struct Input {
@@ -45,13 +45,13 @@ pub fn begin() -> Input {
     Input { got: 0, left: 0 }
 }
 
-// How many bytes stand before the first LF; all of them, where there is none.
-fn line_end(bytes: &[u8]) -> usize
-    ensures { λ r. ⌜ (r ≡ length (lineOf (now (bytes .entry)))) × (r ≤ length (now (bytes .entry))) ⌝ }
+// How many bytes stand before the first `stop`; all of them, where there is none.
+pub fn until(bytes: &[u8], stop: u8) -> usize
+    ensures { λ r. ⌜ (r ≡ length (upTo stop (now (bytes .entry)))) × (r ≤ length (now (bytes .entry))) ⌝ }
 {
     let mut i: usize = 0;
     while i < bytes.len() {
-        if bytes[i] == b'\n' {
+        if bytes[i] == stop {
             return i;
         }
         i += 1;
@@ -88,7 +88,7 @@ fn take_part(g: Gathered, line: &mut [u8], bytes: &[u8]) -> Gathered
     requires { ⌜ g .long ≤ length (now line) ⌝ }
     ensures { λ r. ⌜ r .long ≤ length (now (line .exit)) ⌝ }
 {
-    let end = line_end(bytes);
+    let end = until(bytes, b'\n');
     let left = left_behind(bytes, end);
     let long = g.long;
     match gather(line, long, &bytes[0..end]) {

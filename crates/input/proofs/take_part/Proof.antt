@@ -16,8 +16,8 @@ laid c =
     let put = c .before .before .before .before .before in
     placed-within _ _ _ _ _ _ (put .gather .ensures) (c .before .n .given .1)
 
-line-end-requires : tie.Need-line-end-requires
-line-end-requires c κs = search needs
+until-requires : tie.Need-until-requires
+until-requires c κs = search needs
 
 left-behind-requires : tie.Need-left-behind-requires
 left-behind-requires c κs = search needs
@@ -59,7 +59,7 @@ pub take-part-spec : {M : Type 1} → statement M
 take-part-spec =
     tie.close
     (tie.spec
-    line-end-requires
+    until-requires
     left-behind-requires
     sub-gather
     part-gather-start

@@ -1,0 +1,124 @@
+// A record delivered to a session, and what each place makes of a record.
+use answers::number;
+use fixtures::byte_at;
+use fixtures::session_of;
+use kinds::kind_of;
+use session::Session;
+use session::Standing;
+use session::Verdict;
+use session::judge_record;
+use transcript::say;
+use transcript::say_cell;
+use transcript::say_kind_wide;
+use transcript::say_number;
+use transcript::say_place;
+
+// A verdict's number, and the key of the row that it asks for, 0 where it asks for none.
+struct Told {
+    number: u8,
+    wants: bool,
+    key: u32,
+}
+
+fn told_of(verdict: Verdict) -> Told {
+    match verdict {
+        Verdict::Refused(a) => Told {
+            number: number(a),
+            wants: false,
+            key: 0,
+        },
+        Verdict::Taken(_) => Told {
+            number: 0,
+            wants: false,
+            key: 0,
+        },
+        Verdict::Opened(_, _, _) => Told {
+            number: 0,
+            wants: false,
+            key: 0,
+        },
+        Verdict::Wanted(_, _, key) => Told {
+            number: 0,
+            wants: true,
+            key,
+        },
+    }
+}
+
+// The row that a part result asks for.
+fn say_key(key: u32) {
+    say(b", row ");
+    say_number((key / 16777216) as u64);
+    say(b"/");
+    say_number((key / 65536 % 256) as u64);
+    say(b" bin ");
+    say_number((key % 65536) as u64);
+}
+
+fn say_told(t: Told) {
+    say(b" ");
+    say_number(t.number as u64);
+    if t.wants {
+        say_key(t.key);
+    }
+}
+
+fn say_standing(standing: Standing) {
+    let place = standing.place;
+    say(b", ");
+    say_place(place);
+    say(b", open ");
+    say_number(standing.opened as u64);
+    say(b", accepted ");
+    say_number(standing.results as u64);
+    say(b"\n");
+}
+
+pub(crate) fn deliver(s: Session, rec: &[u8]) -> Session {
+    let judged = judge_record(s, rec);
+    let verdict = judged.verdict;
+    let next = judged.session;
+    let standing = next.standing;
+    say_told(told_of(verdict));
+    say_standing(standing);
+    next
+}
+
+// A number of one digit, or of two, in a cell as wide as a place's.
+pub(crate) fn say_number_cell(n: u8) {
+    if n < 10 {
+        say(b"       ");
+    } else {
+        say(b"      ");
+    }
+    say_number(n as u64);
+}
+
+// A session at a place, low byte first, with no part open; in the body and behind the MRR a PCR was accepted.
+fn session_at(place: u8) -> Session {
+    let pcr = if place < 4 { 0 } else { 1 };
+    session_of(&[place, 2, 0, pcr])
+}
+
+fn say_after(place: u8, rec: &[u8]) {
+    let judged = judge_record(session_at(place), rec);
+    let verdict = judged.verdict;
+    let n = told_of(verdict).number;
+    if n == 0 {
+        let next = judged.session;
+        let standing = next.standing;
+        let after = standing.place;
+        return say_cell(after);
+    }
+    say_number_cell(n);
+}
+
+pub(crate) fn say_places(rec: &[u8]) {
+    say_kind_wide(kind_of(byte_at(rec, 2), byte_at(rec, 3)));
+    let mut i: u8 = 0;
+    while i < 6 {
+        say_after(i, rec);
+        i += 1;
+    }
+    say(b"\n");
+}
