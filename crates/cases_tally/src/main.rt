@@ -11,7 +11,14 @@ use feed::end;
 use feed::put;
 use feed::start;
 use following::Stream;
+ghost use Prim.Native.Nat.{_≤_};
 ghost use Rattle.cases_tally.specs.Feed.{Ready};
+
+fn wide(b: u8) -> usize
+    ensures { λ r. ⌜ r ≤ 255 ⌝ }
+{
+    b as usize
+}
 
 // The bytes behind CUT.
 fn put_cut(s: Stream, buf: &mut [u8], bytes: &[u8]) -> Stream
@@ -21,7 +28,7 @@ fn put_cut(s: Stream, buf: &mut [u8], bytes: &[u8]) -> Stream
     if bytes.len() < 2 {
         return s;
     }
-    let cut = bytes[0] as usize * 256 + bytes[1] as usize;
+    let cut = wide(bytes[0]) * 256 + wide(bytes[1]);
     if cut < 1 || 1000 < cut {
         return s;
     }
