@@ -6,50 +6,50 @@ use calls::deliver;
 use calls::figures;
 use calls::judge_report;
 use calls::open_slot;
+use case_lines::say_values;
 use house::House;
-use transcript::say;
-use transcript::say_answer;
-use transcript::say_number;
 
-fn say_call(call: &[u8], answer: Answer) {
-    say(call);
-    say_answer(answer);
+fn wide(answer: Answer) -> u64 {
+    number(answer) as u64
 }
 
 // The figures are told of a sound house only: of another there are none.
 fn say_figures(h: House) {
     let f = figures(h);
     let answer = f.answer;
-    say_call(b", figures ", answer);
-    if number(answer) == 0 {
-        say(b", ");
-        say_number(f.free as u64);
-        say(b" free, ");
-        say_number(f.promised as u64);
-        say(b" promised");
+    let n = wide(answer);
+    let values = [n, f.free as u64, f.promised as u64, 0, 0, 0, 0, 0];
+    if n == 0 {
+        return say_values(b", figures |, | free, | promised\n", values);
     }
-    say(b"\n");
+    say_values(b", figures |\n", values);
 }
 
 pub(crate) fn say_calls(h: House) {
     let opened = open_slot(h, 15, 0);
-    let answer = opened.answer;
-    say_call(b" open ", answer);
+    let open = opened.answer;
     let delivered = deliver(h, 0, b"");
-    let answer = delivered.answer;
-    say_call(b", deliver ", answer);
+    let delivering = delivered.answer;
     let reported = judge_report(h, 0, 1024);
-    let answer = reported.answer;
-    say_call(b", report ", answer);
+    let report = reported.answer;
     let closed = close_slot(h, 0);
-    let answer = closed.answer;
-    say_call(b", close ", answer);
+    let close = closed.answer;
+    let values = [
+        wide(open),
+        wide(delivering),
+        wide(report),
+        wide(close),
+        0,
+        0,
+        0,
+        0,
+    ];
+    say_values(b" open |, deliver |, report |, close |", values);
     say_figures(h);
 }
 
 pub(crate) fn say_delivered(h: House, rec: &[u8]) {
     let delivered = deliver(h, 0, rec);
     let answer = delivered.answer;
-    say_call(b" ", answer);
-    say(b"\n");
+    say_values(b" |\n", [wide(answer), 0, 0, 0, 0, 0, 0, 0]);
 }

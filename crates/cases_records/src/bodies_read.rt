@@ -6,54 +6,17 @@ use bodies::Pcr;
 use bodies::Reading;
 use bodies::Record;
 use bodies::read_body;
-use input::until;
+use case_lines::MISSING;
+use case_lines::say_values;
 use kinds::Kind;
 use numbers::Order;
 use transcript::say;
-use transcript::say_number;
-ghost use Prim.Native.Nat.{_+_, _≤_};
-ghost use lib.ListN.{length};
-
-// What stands for a missing field: no field of four bytes has this value.
-const MISSING: u64 = 4294967296;
 
 fn value(field: Optional) -> u64 {
     match field {
         Optional::Value(n) => n as u64,
         Optional::Missing => MISSING,
     }
-}
-
-fn say_value(n: u64) {
-    if n == MISSING {
-        return say(b"missing");
-    }
-    say_number(n);
-}
-
-// The field whose name starts at `at`, if there is one. Answers where the next one starts.
-fn say_field(names: &[u8], at: usize, value: u64) -> usize
-    requires { ⌜ at ≤ length (now names) + 1 ⌝ }
-    ensures { λ r. ⌜ r ≤ length (now (names .entry)) + 1 ⌝ }
-{
-    if names.len() <= at {
-        return at;
-    }
-    let end = at + until(&names[at..], b'|');
-    say(&names[at..end]);
-    say_value(value);
-    end + 1
-}
-
-// The names of fields, a bar behind each but the last, and their values.
-fn say_fields(names: &[u8], values: [u64; 7]) {
-    let mut at: usize = 0;
-    let mut i: usize = 0;
-    while i < 7 {
-        at = say_field(names, at, values[i]);
-        i += 1;
-    }
-    say(b"\n");
 }
 
 fn say_pcr(p: Pcr) {
@@ -69,9 +32,10 @@ fn say_pcr(p: Pcr) {
         value(abort),
         value(good),
         value(functional),
+        0,
     ];
-    say_fields(
-        b" PCR head | site | parts | retest | abort | good | functional ",
+    say_values(
+        b" PCR head | site | parts | retest | abort | good | functional |\n",
         values,
     );
 }
@@ -96,34 +60,41 @@ fn say_bin(b: Bin) {
         value(pf),
         n[0],
         n[1],
+        0,
     ];
     if b.soft {
-        return say_fields(b" SBR head | site | bin | count | P/F | name | at ", values);
+        say(b" S");
+    } else {
+        say(b" H");
     }
-    say_fields(b" HBR head | site | bin | count | P/F | name | at ", values);
+    say_values(
+        b"BR head | site | bin | count | P/F | name | at |\n",
+        values,
+    );
 }
 
 fn say_record(record: Record) {
     match record {
-        Record::Far(f) => say_fields(
-            b" FAR CPU_TYPE | STDF_VER ",
-            [f.cpu as u64, f.version as u64, 0, 0, 0, 0, 0],
+        Record::Far(f) => say_values(
+            b" FAR CPU_TYPE | STDF_VER |\n",
+            [f.cpu as u64, f.version as u64, 0, 0, 0, 0, 0, 0],
         ),
         Record::Mir => say(b" MIR\n"),
         Record::Mrr => say(b" MRR\n"),
         Record::Pcr(p) => say_pcr(p),
         Record::Bin(b) => say_bin(b),
-        Record::Pir(p) => say_fields(
-            b" PIR head | site ",
-            [p.head as u64, p.site as u64, 0, 0, 0, 0, 0],
+        Record::Pir(p) => say_values(
+            b" PIR head | site |\n",
+            [p.head as u64, p.site as u64, 0, 0, 0, 0, 0, 0],
         ),
-        Record::Prr(p) => say_fields(
-            b" PRR head | site | flags | hard bin ",
+        Record::Prr(p) => say_values(
+            b" PRR head | site | flags | hard bin |\n",
             [
                 p.head as u64,
                 p.site as u64,
                 p.flags as u64,
                 p.bin as u64,
+                0,
                 0,
                 0,
                 0,

@@ -1,6 +1,7 @@
 // Kinds by type and subtype, and where each takes a stream from each place.
 use crate::lengths::run_at;
 use crate::sessions::say_number_cell;
+use case_lines::say_values;
 use fixtures::place_at;
 use kinds::Kind;
 use kinds::kind_of;
@@ -10,7 +11,6 @@ use transcript::say;
 use transcript::say_cell;
 use transcript::say_kind;
 use transcript::say_kind_wide;
-use transcript::say_number;
 ghost use Prim.Native.Nat.{_+_, _≤_};
 
 // What a line tells apart.
@@ -33,9 +33,7 @@ fn class_of(typ: u8, s: usize) -> u8 {
 }
 
 fn say_named(typ: u8, s: usize) {
-    say(b" ");
-    say_number(s as u64);
-    say(b" ");
+    say_values(b" | ", [s as u64, 0, 0, 0, 0, 0, 0, 0]);
     say_kind(kind_of(typ, (s % 256) as u8));
 }
 

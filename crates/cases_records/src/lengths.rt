@@ -2,10 +2,10 @@
 // end.
 use bodies::Reading;
 use bodies::read_body;
+use case_lines::say_values;
 use kinds::Kind;
 use numbers::Order;
 use transcript::say;
-use transcript::say_number;
 ghost use Prim.Native.Nat.{_+_, _≤_};
 
 // Some past the longest body, 7,695 bytes.
@@ -34,11 +34,11 @@ fn fits_at(order: Order, kind: Kind, bytes: &[u8], n: usize) -> bool {
 }
 
 fn say_run(first: usize, last: usize, what: &[u8]) {
-    say(b" ");
-    say_number(first as u64);
+    let values = [first as u64, last as u64, 0, 0, 0, 0, 0, 0];
     if first < last {
-        say(b" to ");
-        say_number(last as u64);
+        say_values(b" | to |", values);
+    } else {
+        say_values(b" |", values);
     }
     say(what);
 }

@@ -1,10 +1,10 @@
 // A record delivered to a session, and what each place makes of a record.
 use answers::number;
+use case_lines::say_values;
 use fixtures::byte_at;
 use fixtures::session_of;
 use kinds::kind_of;
 use session::Session;
-use session::Standing;
 use session::Verdict;
 use session::judge_record;
 use transcript::say;
@@ -45,33 +45,26 @@ fn told_of(verdict: Verdict) -> Told {
     }
 }
 
-// The row that a part result asks for.
-fn say_key(key: u32) {
-    say(b", row ");
-    say_number((key / 16777216) as u64);
-    say(b"/");
-    say_number((key / 65536 % 256) as u64);
-    say(b" bin ");
-    say_number((key % 65536) as u64);
-}
-
+// The number, and the row that a part result asks for.
 fn say_told(t: Told) {
-    say(b" ");
-    say_number(t.number as u64);
+    let n = t.number as u64;
+    let key = t.key as u64;
     if t.wants {
-        say_key(t.key);
+        return say_values(
+            b" |, row |/| bin |, ",
+            [
+                n,
+                key / 16777216,
+                key / 65536 % 256,
+                key % 65536,
+                0,
+                0,
+                0,
+                0,
+            ],
+        );
     }
-}
-
-fn say_standing(standing: Standing) {
-    let place = standing.place;
-    say(b", ");
-    say_place(place);
-    say(b", open ");
-    say_number(standing.opened as u64);
-    say(b", accepted ");
-    say_number(standing.results as u64);
-    say(b"\n");
+    say_values(b" |, ", [n, 0, 0, 0, 0, 0, 0, 0]);
 }
 
 pub(crate) fn deliver(s: Session, rec: &[u8]) -> Session {
@@ -79,8 +72,20 @@ pub(crate) fn deliver(s: Session, rec: &[u8]) -> Session {
     let verdict = judged.verdict;
     let next = judged.session;
     let standing = next.standing;
+    let place = standing.place;
+    let values = [
+        standing.opened as u64,
+        standing.results as u64,
+        0,
+        0,
+        0,
+        0,
+        0,
+        0,
+    ];
     say_told(told_of(verdict));
-    say_standing(standing);
+    say_place(place);
+    say_values(b", open |, accepted |\n", values);
     next
 }
 
