@@ -2,21 +2,21 @@
 // call answers stands behind it. A line without a label only sets something up. A verb is known by its first letter.
 // Bytes are words in lower case hexadecimal, one behind the other; `HEX*N` is such a word N times, and a word that is
 // neither is said as `?`. Lines that begin with `#`, and empty ones, are copied.
-mod values;
+mod saying;
 
 use input::Found;
 use input::Input;
 use input::next_line;
 use input::until;
 use output::put_part;
+pub use saying::MISSING;
+pub use saying::say_values;
 use script::Number;
 use script::is_hex;
 use script::number_of;
 use script::unhex;
 use script::word_end;
 use transcript::say;
-pub use values::MISSING;
-pub use values::say_values;
 ghost use mathlib.Core.Path.{_≡_};
 ghost use Prim.Native.Nat.{_+_, _≤_};
 ghost use lib.ListN.{length};

@@ -1,13 +1,13 @@
-// Houses put together by hand, as a script on standard input: document 01, "The house, its slots and its rows", "A house
-// is sound". For each condition a house that breaks it alone, which every call answers with 15, and the sound houses at
-// its boundary, which none does. Held to the file stdout. A line is `LABEL: VERB BYTES` (crate case_lines), and all
-// words behind the verb are bytes in hexadecimal, numbers high byte first.
+// Houses put together by hand, as a script on standard input: document 01, "The house, its slots and its rows", "A
+// house is sound". For each condition a house that breaks it alone, which every call answers with 15, and the sound
+// houses at its boundary, which none does. Held to the file stdout. A line is `LABEL: VERB BYTES` (crate case_lines),
+// and all words behind the verb are bytes in hexadecimal, numbers high byte first.
 //
 //     fresh                       a fresh house
 //     slot SLOT TAKEN FLOOR SESSION    sets a slot: a byte, 01 where it is open, four bytes, and a session by its bytes
 //                                 (fixtures, session_of)
-//     rows USED KEY COUNT ..      sets the rows: how many are in use, four bytes; keys and counts of eight bytes each. A
-//                                 key is slot, four bytes, then head, site and bin
+//     rows USED KEY COUNT ..      sets the rows: how many are in use, four bytes; keys and counts of eight bytes each.
+//                                 A key is slot, four bytes, then head, site and bin
 //     keys USED                   sets the rows: keys of slot 0 that rise from 0, a count of 1 each
 //     calls                       what Open of slot 15 with floor 0, Deliver of nothing to slot 0, Report and Close of
 //                                 slot 0, and Figures answer

@@ -1,8 +1,9 @@
 // Cases of records and of one session, as a script on standard input: document 01, "Record frame and kinds", "Order of
 // a stream", "Order of checks" and "A house is sound". Held to the file stdout. A line is `LABEL: VERB BYTES` (crate
-// case_lines), and all words behind the verb are bytes in hexadecimal; CPU is 01, high byte first, or 02, low byte first.
+// case_lines), and all words behind the verb are bytes in hexadecimal. CPU is 01, high byte first, or 02, low byte
+// first.
 //
-//     type TYP                  the subtypes of a type that are no unknown kind: those that have a name, and runs of custom
+//     type TYP                  the subtypes of a type that are known: those that have a name, and runs of custom ones
 //     order TYP SUB             where the kind takes a stream from each place, or 8
 //     fits CPU TYP SUB BODY     0, or 7
 //     body CPU TYP SUB BODY     what is read of a body, or 7

@@ -1,5 +1,6 @@
-// Small whole streams, each put in chunks, as a script on standard input: document 01, "Tally program". Held to the file
-// stdout. A line is `LABEL: VERB BYTES` (crate case_lines), and all words behind the verb are bytes in hexadecimal.
+// Small whole streams, each put in chunks, as a script on standard input: document 01, "Tally program". Held to the
+// file stdout. A line is `LABEL: VERB BYTES` (crate case_lines), and all words behind the verb are bytes in
+// hexadecimal.
 //
 //     new             a stream of which nothing has come
 //     put CUT BYTES   bytes of the stream, CUT of them a chunk: two bytes, 1 to 1,000

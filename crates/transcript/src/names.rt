@@ -1,5 +1,5 @@
 // The names of kinds and of places: document 01, "Record frame and kinds" and "Order of a stream". All names stand in
-// one text, each as wide as the widest, and a number tells which one is said.
+// one text, and a number tells which one is said.
 use crate::say;
 use kinds::Kind;
 use kinds::Remaining;
@@ -49,34 +49,41 @@ fn kind_number(kind: Kind) -> usize
     }
 }
 
-// Bytes `from` to `end` of the names of kinds, each seven wide.
-fn say_kind_part(from: usize, end: usize)
-    requires { ⌜ (from ≤ end) × (end ≤ 189) ⌝ }
-{
-    let names =
-        *b"FAR    ATR    MIR    MRR    PCR    HBR    SBR    RDR    SDR    PIR    PRR    PMR    PGR    PLR    WIR    WRR    WCR    TSR    PTR    MPR    FTR    BPS    EPS    GDR    DTR    custom unknown";
-    say(&names[from..end]);
-}
-
-fn kind_width(n: usize) -> usize
-    ensures { λ r. ⌜ r ≤ 7 ⌝ }
+// Where the name of a kind starts: all but the last two are three wide.
+fn kind_start(n: usize) -> usize
+    requires { ⌜ n ≤ 27 ⌝ }
+    ensures { λ r. ⌜ r ≤ 88 ⌝ }
 {
     match n {
-        25 => 6,
-        26 => 7,
-        _ => 3,
+        26 => 81,
+        27 => 88,
+        _ => 3 * n,
+    }
+}
+
+fn say_kind_part(from: usize, end: usize)
+    requires { ⌜ end ≤ 88 ⌝ }
+{
+    let names =
+        *b"FARATRMIRMRRPCRHBRSBRRDRSDRPIRPRRPMRPGRPLRWIRWRRWCRTSRPTRMPRFTRBPSEPSGDRDTRcustomunknown";
+    if from <= end {
+        say(&names[from..end]);
     }
 }
 
 pub fn say_kind(kind: Kind) {
     let n = kind_number(kind);
-    say_kind_part(7 * n, 7 * n + kind_width(n));
+    say_kind_part(kind_start(n), kind_start(n + 1));
 }
 
 // The name of a kind, as wide as the widest.
 pub fn say_kind_wide(kind: Kind) {
-    let n = kind_number(kind);
-    say_kind_part(7 * n, 7 * n + 7);
+    say_kind(kind);
+    match kind {
+        Kind::Custom => say(b" "),
+        Kind::Unknown => {}
+        _ => say(b"    "),
+    }
 }
 
 fn place_number(place: Place) -> usize

@@ -1,10 +1,10 @@
--- `case_lines::values::say_values` ends, and reads within the text and the values.
+-- `case_lines::saying::say_values` ends, and reads within the text and the values.
 -- Assumes nothing.
 use Prim.Native.Nat.{_+_, _-_, _≤_}
 use lib.ListN.{length}
 use borrow.Author.Needs.{needs}
-use Rattle.case_lines.proofs.values.say_values.Statement.{statement}
-use Rattle.case_lines.proofs.values.say_values.Tie as tie
+use Rattle.case_lines.proofs.saying.say_values.Statement.{statement}
+use Rattle.case_lines.proofs.saying.say_values.Tie as tie
 
 abbrev Inv-loop : tie.InvT-loop
 Inv-loop text values at₀ i₀ at i = (i ≤ 8) × (at ≤ length text + 1)
