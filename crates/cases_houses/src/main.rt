@@ -22,13 +22,15 @@ use house::House;
 use setting::with_keys;
 use setting::with_rows;
 use setting::with_slot;
+use transcript::say;
 
 // What is asked of a house.
 fn ask(house: House, verb: u8, bytes: &[u8]) {
     match verb {
+        0 => {}
         b'c' => say_calls(house),
         b'd' => say_delivered(house, bytes),
-        _ => {}
+        _ => say(b"?\n"),
     }
 }
 

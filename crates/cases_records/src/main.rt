@@ -36,7 +36,8 @@ fn ask_body(verb: u8, bytes: &[u8]) {
     match verb {
         b'f' => lengths::say_fit(order, kind, body),
         b'l' => lengths::say_lengths(order, kind, body),
-        _ => bodies_read::say_body(order, kind, body),
+        b'b' => bodies_read::say_body(order, kind, body),
+        _ => say(b"?\n"),
     }
 }
 

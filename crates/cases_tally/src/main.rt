@@ -12,6 +12,7 @@ use feed::end;
 use feed::put;
 use feed::start;
 use following::Stream;
+use transcript::say;
 ghost use Prim.Native.Nat.{_≤_};
 ghost use Rattle.cases_tally.specs.Feed.{Ready};
 
@@ -36,6 +37,13 @@ fn put_cut(s: Stream, buf: &mut [u8], bytes: &[u8]) -> Stream
     put(s, buf, &bytes[2..], cut)
 }
 
+// A verb that is none of these is said as `?`; 0 is no verb.
+fn no_call(verb: u8) {
+    if verb != 0 {
+        say(b"?\n");
+    }
+}
+
 fn play(s: Stream, buf: &mut [u8], verb: u8, bytes: &[u8]) -> Stream
     requires { ⌜ Ready s (now buf) ⌝ }
     ensures { λ r. ⌜ Ready r (now (buf .exit)) ⌝ }
@@ -47,7 +55,10 @@ fn play(s: Stream, buf: &mut [u8], verb: u8, bytes: &[u8]) -> Stream
             end(s, buf);
             s
         }
-        _ => s,
+        _ => {
+            no_call(verb);
+            s
+        }
     }
 }
 

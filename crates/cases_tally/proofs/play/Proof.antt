@@ -13,6 +13,9 @@ put-cut-requires c κs = search needs
 end-requires : tie.Need-end-requires
 end-requires c κs = search needs
 
+no-call-requires : tie.Need-no-call-requires
+no-call-requires c κs = tt
+
 returns : tie.Need-returns
 returns c = c .start .ensures _
 
@@ -38,6 +41,7 @@ play-spec =
     start-requires
     put-cut-requires
     end-requires
+    no-call-requires
     returns
     same-length
     returns-2
