@@ -6,15 +6,18 @@
 use mathlib.Core.Path.{_≡_}
 use mathlib.Core.Bool.{true, false}
 use mathlib.Core.List.{List}
-use Prim.Native.Nat.{ℕ, _≤_, _<_}
+use Prim.Native.Nat.{ℕ}
 use Rattle.numbers.specs.declared.Order.{Order}
 use Rattle.numbers.specs.Laws.{Bytes}
 use Rattle.kinds.specs.declared.Kind.{Kind}
 use Rattle.kinds.specs.declared.Kind.the-variants as kind
+use Rattle.count_bodies.specs.Counts.{pcrOf, binCountOf}
+use Rattle.part_bodies.specs.Parts.{pirOf, prrOf}
+use Rattle.part_bodies.specs.Laws.{PirRight, PrrRight}
 use Rattle.bodies.specs.declared.Record.{Record}
 use Rattle.bodies.specs.declared.Record.the-variants as said
 use Rattle.bodies.specs.declared.Reading.the-variants.{Fits}
-use Rattle.bodies.specs.Bodies.{farOf, pcrOf, binOf, pirOf, prrOf, readBody}
+use Rattle.bodies.specs.Bodies.{farOf, readBody}
 
 abbrev pub saidBy : Order → Kind → List ℕ → Record
 saidBy order kind.Far b = said.Far (farOf b)
@@ -22,8 +25,8 @@ saidBy order kind.Atr b = said.Unread
 saidBy order kind.Mir b = said.Mir
 saidBy order kind.Mrr b = said.Mrr
 saidBy order kind.Pcr b = said.Pcr (pcrOf order b)
-saidBy order kind.Hbr b = said.Bin (binOf false order b)
-saidBy order kind.Sbr b = said.Bin (binOf true order b)
+saidBy order kind.Hbr b = said.Bin (binCountOf false order b)
+saidBy order kind.Sbr b = said.Bin (binCountOf true order b)
 saidBy order kind.Rdr b = said.Unread
 saidBy order kind.Sdr b = said.Unread
 saidBy order kind.Pir b = said.Pir (pirOf b)
@@ -36,11 +39,10 @@ saidBy order kind.Unknown b = said.Unread
 abbrev pub SaidBy : Type 0
 SaidBy = (order : Order) (k : Kind) (b : List ℕ) (r : Record) → readBody order k b ≡ Fits r → r ≡ saidBy order k b
 
--- what is known of a part, opened or with its result: a head of at most 254, a site of at most 255, a bin of at most
--- 32,767
+-- what is known of a part, opened or with its result
 abbrev pub Right : Record → Type 0
-Right (said.Pir p) = (p .head < 255) × (p .site < 256)
-Right (said.Prr p) = (p .head < 255) × (p .site < 256) × (p .bin ≤ 32767)
+Right (said.Pir p) = PirRight p
+Right (said.Prr p) = PrrRight p
 Right (said.Far f) = Unit
 Right said.Mir = Unit
 Right said.Mrr = Unit

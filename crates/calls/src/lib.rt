@@ -1,33 +1,27 @@
 // The calls: document 01, "The house, its slots and its rows", Calls, each with its order of checks. A refusal gives
 // the house back as it came: every call takes a house by value, tests its soundness and answers, whatever is handed in.
-mod reports;
-
 use answers::Answer;
 use house::Answered;
 use house::Figures;
 use house::House;
 use house::Room;
 use house::Slot;
-use lent::deliver_lent;
-use lent::is_sound;
-use lent::soundness_lent;
-use lent::soundness_of;
-use lent::unfilled_of;
-pub use reports::judge_report;
-pub use reports::list_rows;
-pub use reports::report;
+use judging::judge_lent;
+use lent::settle_lent;
 use session::Session;
 use session::Verdict;
-use session::judge_lent;
-use session::settle;
+use settling::settle;
+use soundness::is_sound;
+use soundness::soundness_lent;
+use soundness::soundness_of;
+use soundness::unfilled_of;
 ghost use mathlib.Core.Path.{_≡_};
 ghost use mathlib.Core.Bool.{true};
-ghost use Prim.Native.Nat.{_<_};
-ghost use lib.ListN.{length};
-ghost use Rattle.house.specs.House.{sound, promised};
-ghost use Rattle.house.specs.Deliver.{wantsRow, plainAnswer};
+ghost use Rattle.session.specs.Session.{sound};
+ghost use Rattle.settling.specs.Settling.{Settles};
+ghost use Rattle.judging.specs.Judge.{verdictOn};
 ghost use Rattle.house.specs.Calls.{openSlot, closeSlot, deliver, figuresOf};
-ghost use Rattle.house.specs.Calls.{answered, slotAt, deliveredTo, withOutcome};
+ghost use Rattle.house.specs.Calls.{answered, settledTo, withOutcome, Settleable};
 
 fn answer_with(answer: Answer, house: House) -> Answered
     ensures { λ r. ⌜ r ≡ answered answer house ⌝ }
@@ -43,19 +37,19 @@ pub fn open_slot(house: House, slot: u32, floor: u32) -> Answered
     if !told.sound {
         return answer_with(Answer::NotSound, house);
     }
-    if 16 <= slot {
+    let i = slot as usize;
+    if House::SLOTS <= i {
         return answer_with(Answer::NoSuchSlot, house);
     }
-    if 1024 < floor {
+    if House::ROWS < floor as usize {
         return answer_with(Answer::FloorTooHigh, house);
     }
     let mut h = house;
-    let i = slot as usize;
     let s = h.slots[i];
     if s.taken {
         return answer_with(Answer::SlotTaken, h);
     }
-    let free = 1024 - h.used as u32;
+    let free = (House::ROWS - h.used) as u32;
     if free - told.promised < floor {
         return answer_with(Answer::NoRoom, h);
     }
@@ -69,7 +63,7 @@ pub fn figures(house: House) -> Figures
 {
     let told = soundness_of(house);
     if told.sound {
-        let free = 1024 - house.used as u32;
+        let free = (House::ROWS - house.used) as u32;
         return Figures {
             answer: Answer::Done,
             free,
@@ -90,11 +84,11 @@ pub fn close_slot(house: House, slot: u32) -> Answered
     if !is_sound(house) {
         return answer_with(Answer::NotSound, house);
     }
-    if 16 <= slot {
+    let i = slot as usize;
+    if House::SLOTS <= i {
         return answer_with(Answer::NoSuchSlot, house);
     }
     let mut h = house;
-    let i = slot as usize;
     let s = h.slots[i];
     if !s.taken {
         return answer_with(Answer::SlotClosed, h);
@@ -119,70 +113,60 @@ pub fn deliver(house: House, slot: u32, rec: &[u8]) -> Answered
     if !told.sound {
         return answer_with(Answer::NotSound, h);
     }
-    if 16 <= slot {
+    let i = slot as usize;
+    if House::SLOTS <= i {
         return answer_with(Answer::NoSuchSlot, h);
     }
-    let i = slot as usize;
     let s = h.slots[i];
     if !s.taken {
         return answer_with(Answer::SlotClosed, h);
     }
-    deliver_to(h, told.promised, i, s, rec)
+    let verdict = judge_slot(s, rec);
+    settle_to(h, told.promised, i, s, verdict)
 }
 
-fn wants_row(verdict: Verdict) -> bool
-    ensures { λ r. ⌜ r ≡ wantsRow verdict ⌝ }
+// What a record does to the session of an open slot: it is judged here, once, and no house is touched.
+fn judge_slot(s: Slot, rec: &[u8]) -> Verdict
+    requires { ⌜ sound (s .session) ≡ true ⌝ }
+    ensures { λ r. ⌜ (r ≡ verdictOn (s .session) (now (rec .entry))) × Settles (s .session .standing .opened) r ⌝ }
 {
-    match verdict {
-        Verdict::Refused(_) => false,
-        Verdict::Taken(_) => false,
-        Verdict::Opened(_, _, _) => false,
-        Verdict::Wanted(_, _, _) => true,
-    }
-}
-
-fn plain_answer(verdict: Verdict) -> Answer
-    ensures { λ r. ⌜ r ≡ plainAnswer verdict ⌝ }
-{
-    match verdict {
-        Verdict::Refused(answer) => answer,
-        Verdict::Taken(_) => Answer::Done,
-        Verdict::Opened(_, _, _) => Answer::Done,
-        Verdict::Wanted(_, _, _) => Answer::Done,
-    }
-}
-
-// .. to an open slot of a sound house, of which the test has told how many rows it owes. A record that asks for no row
-// is settled in the slot, and no row is touched.
-fn deliver_to(house: House, owed: u32, i: usize, s: Slot, rec: &[u8]) -> Answered
-    requires { ⌜ (sound house ≡ true) × (i < 16) × (s ≡ slotAt house i) × (s .taken ≡ true)
-        × (length (house .slots) ≡ 16) × (owed ≡ promised house) ⌝ }
-    ensures { λ r. ⌜ r ≡ withOutcome house i (deliveredTo house i (now (rec .entry))) ⌝ }
-{
-    let mut h = house;
     let session = s.session;
     let parts = session.parts;
-    let verdict = judge_lent(session.standing, &parts, rec);
-    if wants_row(verdict) {
-        return deliver_rows(h, owed, i, s, rec);
-    }
-    let next = settle(session, verdict);
-    h.slots[i] = Slot {
-        taken: s.taken,
-        floor: s.floor,
-        session: next,
-    };
-    answer_with(plain_answer(verdict), h)
+    judge_lent(session.standing, &parts, rec)
 }
 
-// .. where rows are asked for: the rows and the parts are lent, and laid back. One call has nothing to guess by.
-fn deliver_rows(house: House, owed: u32, i: usize, s: Slot, rec: &[u8]) -> Answered
-    requires { ⌜ (sound house ≡ true) × (i < 16) × (s ≡ slotAt house i) × (s .taken ≡ true)
-        × (length (house .slots) ≡ 16) × (owed ≡ promised house) ⌝ }
-    ensures { λ r. ⌜ r ≡ withOutcome house i (deliveredTo house i (now (rec .entry))) ⌝ }
+// Settles a verdict on a record to an open slot of a sound house, of which the test has told how many rows it owes. One
+// that asks for no row is settled in the slot, and no row is touched.
+fn settle_to(house: House, owed: u32, i: usize, s: Slot, verdict: Verdict) -> Answered
+    requires { ⌜ Settleable house owed i s verdict ⌝ }
+    ensures { λ r. ⌜ r ≡ withOutcome house i (settledTo house i verdict) ⌝ }
 {
-    let mut h = house;
-    let own = unfilled_of(i, s, &h.keys, h.used);
+    match verdict {
+        Verdict::Refused(answer) => answer_with(answer, house),
+        Verdict::Taken(change) => {
+            let mut h = house;
+            let next = settle(s.session, change);
+            h.slots[i] = Slot {
+                taken: s.taken,
+                floor: s.floor,
+                session: next,
+            };
+            answer_with(Answer::Done, h)
+        }
+        Verdict::Wanted(_, _) => settle_rows(house, owed, i, s, verdict),
+    }
+}
+
+// .. and one that asks for a row: the rows and the parts are lent, and the house is laid anew from them, so that each
+// array is copied once. One call has nothing to guess by.
+fn settle_rows(house: House, owed: u32, i: usize, s: Slot, verdict: Verdict) -> Answered
+    requires { ⌜ Settleable house owed i s verdict ⌝ }
+    ensures { λ r. ⌜ r ≡ withOutcome house i (settledTo house i verdict) ⌝ }
+{
+    let used = house.used;
+    let mut keys = house.keys;
+    let mut counts = house.counts;
+    let own = unfilled_of(i, s, &keys, used);
     let room = Room {
         slot: i,
         floor: s.floor,
@@ -190,30 +174,32 @@ fn deliver_rows(house: House, owed: u32, i: usize, s: Slot, rec: &[u8]) -> Answe
     };
     let session = s.session;
     let mut parts = session.parts;
-    let mut keys = h.keys;
-    let mut counts = h.counts;
     let st = session.standing;
     let mut guesses: [u16; 1] = [0; 1];
-    let d = deliver_lent(
+    let d = settle_lent(
         &mut keys,
         &mut counts,
-        h.used,
+        used,
         &mut guesses,
         room,
         st,
         &mut parts,
-        rec,
+        verdict,
     );
     let answer = d.answer;
     let standing = d.standing;
-    h.keys = keys;
-    h.counts = counts;
-    h.used = d.used;
     let next = Session { standing, parts };
-    h.slots[i] = Slot {
+    let mut slots = house.slots;
+    slots[i] = Slot {
         taken: s.taken,
         floor: s.floor,
         session: next,
     };
-    answer_with(answer, h)
+    let laid = House {
+        keys,
+        counts,
+        used: d.used,
+        slots,
+    };
+    answer_with(answer, laid)
 }

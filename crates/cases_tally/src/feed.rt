@@ -1,10 +1,9 @@
 // A stream fed record by record, each cut into chunks, and the text at its end.
-use following::Stream;
-use following::begin;
-use following::finish;
-use following::follow;
+use tallying::Stream;
+use tallying::begin;
+use tallying::finish;
+use tallying::follow;
 use transcript::say;
-use transcript::say_number;
 ghost use mathlib.Core.Path.{_≡_};
 ghost use Prim.Native.Nat.{_+_, _≤_, _<_};
 ghost use lib.ListN.{length, take};
@@ -61,29 +60,18 @@ pub(crate) fn put(s: Stream, buf: &mut [u8], record: &[u8], cut: usize) -> Strea
 }
 
 // A stream of which nothing has come.
-fn start() -> Stream
+pub(crate) fn start() -> Stream
     ensures { λ r. ⌜ ReadyAt r ⌝ }
 {
     begin()
 }
 
-// The first record of a stream.
-pub(crate) fn put_first(buf: &mut [u8], record: &[u8], cut: usize) -> Stream
-    requires { ⌜ (1 ≤ cut) × (cut ≤ 1000) ⌝ }
-    ensures { λ r. ⌜ Ready r (now (buf .exit)) ⌝ }
-{
-    put(start(), buf, record, cut)
-}
-
-// What the tally program would write, below a line that names the stream and its cut.
-pub(crate) fn end(name: &[u8], cut: usize, s: Stream, buf: &[u8])
+// What the tally program would write, below the stream's name.
+pub(crate) fn end(s: Stream, buf: &[u8])
     requires { ⌜ Ready s (now buf) ⌝ }
 {
     let mut text = io::large_buffer();
     let n = finish(s, buf, &mut text);
-    say(name);
-    say(b", ");
-    say_number(cut as u64);
-    say(b" a chunk\n");
+    say(b"\n");
     say(&text[0..n]);
 }

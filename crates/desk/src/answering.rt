@@ -1,103 +1,101 @@
-// The calls and their answers: each takes the house and gives back the house after it.
-use crate::report::report_call;
+// Each line of standard input: read, played, said. The longest call delivers 65,539 bytes; a longer line is no call,
+// and is passed over.
+use crate::house_calls::house_call;
 use house::House;
-use script::Number;
-use script::Verb;
-use script::close_call;
-use script::figures_call;
-use script::is_hex;
-use script::is_no_bytes;
-use script::line_call;
-use script::no_call;
-use script::number_of;
-use script::open_call;
-use script::said;
-use script::unhex;
-use script::verb_of;
-use script::word_end;
+use input::Found;
+use input::next_line;
+use line_calls::line_call;
+use requests::Asked;
+use requests::read_request;
 use transcript::say;
-ghost use Prim.Native.Nat.{_≤_};
+ghost use mathlib.Core.Path.{_≡_};
 ghost use lib.ListN.{length};
+
+const LINE: usize = 140000;
+
+fn line_buffer() -> [u8; LINE]
+    ensures { λ r. ⌜ 140000 ≡ length r ⌝ }
+{
+    [0; LINE]
+}
 
 fn fresh_call() -> House {
     say(b"0\n");
     House::fresh()
 }
 
-// The record's digits stand from `from` on.
-fn deliver_call(house: House, slot: Number, line: &mut [u8], from: usize) -> House
-    requires { ⌜ from ≤ length (now line) ⌝ }
-{
-    let Number::Is(s) = slot else {
-        return no_call(house);
-    };
-    if is_no_bytes(&line[from..]) {
-        return said(calls::deliver(house, s, b""));
-    }
-    if !is_hex(&line[from..]) {
-        return no_call(house);
-    }
-    let n = unhex(line, from);
-    said(calls::deliver(house, s, &line[0..n]))
+fn copied(line: &[u8]) {
+    say(line);
+    say(b"\n");
 }
 
-// A verb alone.
-fn answer_alone(house: House, verb: Verb) -> House {
-    match verb {
-        Verb::Fresh => fresh_call(),
-        Verb::Figures => figures_call(house),
-        _ => no_call(house),
+// What is asked for of no house.
+fn answer_alone(asked: Asked, line: &[u8], bytes: &[u8]) {
+    match asked {
+        Asked::Nothing => say(b"\n"),
+        Asked::Comment => copied(line),
+        Asked::Line(way, order, at, long) => line_call(way, order, at, long, bytes),
+        _ => say(b"?\n"),
     }
 }
 
-// A verb with one word.
-fn answer_one(house: House, verb: Verb, word: &[u8]) -> House {
-    match verb {
-        Verb::Close => close_call(house, number_of(word)),
-        _ => no_call(house),
+fn answer_asked(house: House, asked: Asked, line: &[u8], bytes: &[u8]) -> House {
+    match asked {
+        Asked::Fresh => fresh_call(),
+        Asked::Play(call) => house_call(house, call, bytes),
+        _ => {
+            answer_alone(asked, line, bytes);
+            house
+        }
     }
 }
 
-// A verb with a first word, a slot or a byte order, and what starts at `from`: a second word, in which no space is
-// taken, or the words of a count line's call.
-fn answer_two(house: House, verb: Verb, slot: Number, line: &mut [u8], from: usize) -> House
-    requires { ⌜ from ≤ length (now line) ⌝ }
-{
-    match verb {
-        Verb::Open => open_call(house, slot, number_of(&line[from..])),
-        Verb::Deliver => deliver_call(house, slot, line, from),
-        Verb::Report => report_call(house, slot, number_of(&line[from..])),
-        Verb::Write => line_call(house, verb, slot, line, from),
-        Verb::Read => line_call(house, verb, slot, line, from),
-        _ => no_call(house),
+// One line, without its LF. The bytes that it hands over stand at its start then.
+fn answer_line(house: House, line: &mut [u8]) -> House {
+    let read = read_request(line);
+    let n = read.bytes;
+    let asked = read.asked;
+    let all = &line[..];
+    answer_asked(house, asked, all, &all[0..n])
+}
+
+fn answer_found(house: House, found: Found, line: &mut [u8]) -> House {
+    match found {
+        Found::Line => answer_line(house, line),
+        Found::TooLong => {
+            say(b"?\n");
+            house
+        }
+        Found::End => house,
     }
 }
 
-fn answer_call(house: House, line: &mut [u8]) -> House {
-    let e = word_end(line, 0);
-    let verb = verb_of(&line[0..e]);
-    if e == line.len() {
-        return answer_alone(house, verb);
+fn goes_on(found: Found) -> bool {
+    match found {
+        Found::Line => true,
+        Found::TooLong => true,
+        Found::End => false,
     }
-    let a = e + 1;
-    let b = word_end(line, a);
-    if b == line.len() {
-        return answer_one(house, verb, &line[a..]);
-    }
-    let slot = number_of(&line[a..b]);
-    answer_two(house, verb, slot, line, b + 1)
 }
 
-// One line, without its LF.
-pub(crate) fn answer_line(house: House, line: &mut [u8]) -> House {
-    if line.len() == 0 {
-        say(b"\n");
-        return house;
+// A proved loop has to end, and nothing says that the input does: the turns are a number that no run uses up.
+pub(crate) fn answer_all() {
+    let mut read = io::large_buffer();
+    let chunk: &mut [u8] = &mut read;
+    let mut space = line_buffer();
+    let line: &mut [u8] = &mut space;
+    let mut house = House::fresh();
+    let mut input = input::begin();
+    let mut going = true;
+    let mut turns = u64::MAX;
+    while turns > 0 && going {
+        let next = next_line(input, chunk, line);
+        let found = next.found;
+        let long = next.long;
+        let behind = next.input;
+        house = answer_found(house, found, &mut line[0..long]);
+        input = behind;
+        going = goes_on(found);
+        turns -= 1;
     }
-    if line[0] == b'#' {
-        say(line);
-        say(b"\n");
-        return house;
-    }
-    answer_call(house, line)
 }

@@ -16,11 +16,11 @@
 //
 // One space stands between words. Hex is lower case, `-` is no bytes; numbers are decimal, one to ten digits, AT one to
 // twenty. A line that begins with `#` is copied, an empty one stays empty, and any other line that is no call answers
-// `?`, one with a LENGTH above 4,096 among them.
+// `?`, one with a LENGTH above 4,096 among them. What a line asks for is the crate requests' to say; here it is played,
+// and what came back is written.
 mod answering;
-mod input;
-mod report;
+mod house_calls;
 
 fn main() {
-    input::answer_all();
+    answering::answer_all();
 }

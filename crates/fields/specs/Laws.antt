@@ -2,33 +2,40 @@
 -- Assumes nothing.
 use mathlib.Core.Path.{_≡_}
 use mathlib.Core.Bool.{Bool, true, false}
-use mathlib.Core.List.{List, [], _∷_, _++_}
-use Prim.Native.Nat.{ℕ, zero, suc, _+_, _-_, _≤_, _<_}
-use lib.ListN.{length, getD, drop}
-use Rattle.fields.specs.Fields.{size, fits, offset}
+use mathlib.Core.List.{List, _++_}
+use Prim.Native.Nat.{ℕ, suc, _≤_, _<_}
+use lib.ListN.{length, take, drop}
+use Rattle.prelude.specs.Each.{each}
+use Rattle.numbers.specs.declared.Order.{Order}
+use Rattle.fields.specs.declared.FieldType.{FieldType}
+use Rattle.fields.specs.declared.FieldType.the-variants.{U, I, C1, B1, Cn, Bn}
+use Rattle.fields.specs.Fields.{sizes, endsAmong}
+use Rattle.fields.specs.Tables.{Body, fitsBody, least}
 
 -- a body that fits has every required field
 abbrev pub RequiredThere : Type 0
-RequiredThere = (fs : List ℕ) (required : ℕ) (body : List ℕ) → required ≤ length fs
-    → fits fs required body ≡ true → offset fs required body ≤ length body
+RequiredThere = (order : Order) (t : Body) (b : List ℕ) → fitsBody order t b ≡ true → least (t .required) ≤ length b
 
--- a field that begins in a body that fits is whole
+-- an optional field that begins in bytes that end well is whole
 abbrev pub BegunWhole : Type 0
-BegunWhole = (fs : List ℕ) (required j : ℕ) (body : List ℕ) → j < length fs
-    → fits fs required body ≡ true → offset fs j body < length body
-    → offset fs j body + size (getD fs j 0) (getD body (offset fs j body) 0) ≤ length body
+BegunWhole = (order : Order) (fs : List FieldType) (j : ℕ) (bytes : List ℕ) → endsAmong order fs bytes ≡ true
+    → j < length fs → sizes order (take j fs) bytes < length bytes → sizes order (take (suc j) fs) bytes ≤ length bytes
 
--- fields whose types tell their widths, and how many bytes they take
-abbrev pub fixed : List ℕ → Bool
-fixed [] = true
-fixed (zero ∷ fs) = false
-fixed (suc w ∷ fs) = fixed fs
+-- a type that tells its fields' size alone
+abbrev pub fixed : FieldType → Bool
+fixed (U width) = true
+fixed (I width) = true
+fixed C1 = true
+fixed B1 = true
+fixed Cn = false
+fixed Bn = false
 
-abbrev pub sizes : List ℕ → ℕ
-sizes [] = 0
-sizes (f ∷ fs) = f + sizes fs
+-- such fields begin where the least sizes of those before them say ..
+abbrev pub FixedSizes : Type 0
+FixedSizes = (order : Order) (fs : List FieldType) (bytes : List ℕ) → each fixed fs ≡ true
+    → sizes order fs bytes ≡ least fs
 
--- where a body has all bytes of such fields, what is behind them is all there is to look at
+-- .. and where all bytes of theirs are there, what is behind them is all there is to look at
 abbrev pub FixedThere : Type 0
-FixedThere = (fs more : List ℕ) (required : ℕ) (body : List ℕ) → fixed fs ≡ true → sizes fs ≤ length body
-    → fits (fs ++ more) required body ≡ fits more (required - length fs) (drop (sizes fs) body)
+FixedThere = (order : Order) (fs more : List FieldType) (bytes : List ℕ) → each fixed fs ≡ true
+    → least fs ≤ length bytes → endsAmong order (fs ++ more) bytes ≡ endsAmong order more (drop (least fs) bytes)

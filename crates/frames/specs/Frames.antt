@@ -1,16 +1,13 @@
 -- The frame of a record. Document 01, "Record frame and kinds", its first sentence.
 --
 --   recLen, recTyp, recSub, body   what a record's header says, and what stands behind it
---   isRecord                       whether bytes are exactly one record
---   frameAnswer                    what other bytes are refused with
+--   isRecord                       whether bytes are exactly one record: 3 where they are not
 -- Assumes nothing.
 use Prim.Native.Nat.{ℕ, _-_}
-use mathlib.Core.Bool.{Bool, true, false, _&&_}
+use mathlib.Core.Bool.{Bool, _&&_}
 use mathlib.Core.List.{List}
 use lib.Dec.{eqb, leb}
 use lib.ListN.{length, getD, drop}
-use Rattle.answers.specs.declared.Answer.{Answer}
-use Rattle.answers.specs.declared.Answer.the-variants.{Done, NotOneRecord}
 use Rattle.numbers.specs.declared.Order.{Order}
 use Rattle.numbers.specs.Numbers.{number, front}
 
@@ -34,8 +31,3 @@ body s = drop header s
 -- a whole header, and as many bytes behind it as it says
 unfoldable pub isRecord : Order → List ℕ → Bool
 isRecord order s = leb header (length s) && eqb (length s - header) (recLen order s)
-
--- 3: the slice is not exactly one record
-abbrev pub frameAnswer : Bool → Answer
-frameAnswer true = Done
-frameAnswer false = NotOneRecord

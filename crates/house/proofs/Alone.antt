@@ -20,10 +20,10 @@ use Rattle.rows.specs.Rows.{slotCount, rowKey, heldBy}
 use Rattle.rows.specs.Counts.{Count, has}
 use Rattle.rows.proofs.Counts.{rows-has}
 use Rattle.session.specs.declared.Verdict.{Verdict}
-use Rattle.session.specs.declared.Verdict.the-variants.{Refused, Taken, Opened, Wanted}
-use Rattle.session.specs.After.{verdictOn}
-use Rattle.session.specs.Laws.{KeyRight}
-use Rattle.session.proofs.Judgement.{judged-key}
+use Rattle.session.specs.declared.Verdict.the-variants.{Refused, Taken, Wanted}
+use Rattle.judging.specs.Judge.{verdictOn}
+use Rattle.judging.specs.Laws.{KeyRight}
+use Rattle.judging.proofs.Laws.{judged-key}
 use Rattle.house.specs.declared.Slot.{Slot}
 use Rattle.house.specs.declared.House.{House}
 use Rattle.house.specs.declared.Answered.{Answered}
@@ -72,9 +72,8 @@ aloneRows s rows Figured = rows
 -- the rows that it needs
 abbrev aloneAsks : List Count → Verdict → ℕ
 aloneAsks rows (Refused a) = 0
-aloneAsks rows (Taken next) = 0
-aloneAsks rows (Opened next rank part) = 0
-aloneAsks rows (Wanted next rank key) = cond (has key rows) 0 1
+aloneAsks rows (Taken change) = 0
+aloneAsks rows (Wanted change key) = cond (has key rows) 0 1
 
 abbrev aloneNeeds : Slot → List Count → Call → ℕ
 aloneNeeds s rows (Open i floor) = length rows
@@ -93,9 +92,8 @@ pub record Alone (h : House) (slot : ℕ) (c : Call) : Type 0 where
 module _ (h : House) (slot : ℕ) (shape : Shaped h) (e : sound h ≡ true) where
   asks-told : (v : Verdict) → KeyRight v → asking slot (keysOf h) v ≡ aloneAsks (rowsAt h slot) v
   asks-told (Refused a) right = refl
-  asks-told (Taken next) right = refl
-  asks-told (Opened next rank part) right = refl
-  asks-told (Wanted next rank key) right =
+  asks-told (Taken change) right = refl
+  asks-told (Wanted change key) right =
       let low = key-low key (right .0) in
       rw (rows-has slot (keysOf h) (countsOf h) key (paired h slot shape e) (omega (arith, low)))
 
@@ -112,9 +110,8 @@ module _ (h : House) (slot : ℕ) (shape : Shaped h) (e : sound h ≡ true) wher
   row-there : (v : Verdict) → heldBy slot (keysOf h) + asking slot (keysOf h) v ≤ slotAt h slot .floor
       → roomFor h slot v ≡ true
   row-there (Refused a) within = refl
-  row-there (Taken next) within = refl
-  row-there (Opened next rank part) within = refl
-  row-there (Wanted next rank key) within = go (held (rowKey slot key) (keysOf h)) refl
+  row-there (Taken change) within = refl
+  row-there (Wanted change key) within = go (held (rowKey slot key) (keysOf h)) refl
     where
       go : (b : Bool) → held (rowKey slot key) (keysOf h) ≡ b
           → granted (roomOf h slot) (keysOf h) (rowKey slot key) ≡ true

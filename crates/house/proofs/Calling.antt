@@ -2,15 +2,17 @@
 -- tests before it, in the order of the checks.
 -- Assumes nothing.
 use mathlib.Core.Path.{_≡_, refl, ap, sym, _∙_}
-use mathlib.Core.Bool.{true, false, _&&_}
+use mathlib.Core.Bool.{true, false}
 use mathlib.Core.List.{List, [], _∷_}
 use Prim.Native.Nat.{ℕ, zero, suc, _+_, _-_, _≤_, _<_}
 use native.Mathlib.Nat.{add-zero, zero-add}
 use native.Mathlib.Omega.{arith}
-use borrow.Author.Tests.{le-leb, lt-leb, lt-ltb, le-ltb, leb-true, eqb-true}
-use lib.Dec.{leb, eqb}
+use borrow.Author.Tests.{le-leb, lt-leb, lt-ltb, le-ltb, leb-true, ltb-true, eqb-true, not-true}
 use lib.ListN.{length, getD, set, List·getD-map}
-use lib.Seq.{length-take-le}
+use lib.Seq.{length-take-le, set-getD}
+use Rattle.prelude.specs.All.{all}
+use Rattle.prelude.specs.Checks.{tests}
+use Rattle.prelude.proofs.All.{all-at}
 use Rattle.prelude.proofs.Both.{both-left, both-right}
 use Rattle.answers.specs.declared.Answer.{Answer}
 use Rattle.answers.specs.declared.Answer.the-variants as answer
@@ -22,58 +24,42 @@ use Rattle.session.specs.Session as session
 use Rattle.session.specs.Session.{mostResults}
 use Rattle.session.specs.declared.Session.{Session}
 use Rattle.session.specs.declared.Verdict.{Verdict}
-use Rattle.session.specs.After.{after, verdictOn}
-use Rattle.session.proofs.Judgement.{sound-kept}
+use Rattle.session.specs.declared.Change.{Change}
+use Rattle.session.specs.declared.Verdict.the-variants.{Refused, Taken}
+use Rattle.session.proofs.Laws.{sound-lent}
+use Rattle.settling.specs.Settling.{changed}
+use Rattle.judging.specs.Judge.{verdictOn}
 use Rattle.house.specs.declared.Slot.{Slot}
 use Rattle.house.specs.declared.House.{House}
 use Rattle.house.specs.declared.Room.{Room}
 use Rattle.house.specs.House.{rowCount, noSlot, closedSlot, openedSlot, keysOf, countsOf, free, unfilled}
-use Rattle.house.specs.House.{promisedFrom}
-use Rattle.house.specs.House.{promised, takenOf, rowsSound, slotSound, slotsSound, sound, Lent}
-use Rattle.house.specs.Deliver.{Outcome, core, delivered, wantsRow, plainAnswer, pastCounts}
-use Rattle.house.specs.Deliver.{LentCore}
-use Rattle.house.specs.Calls.{slotAt, withSlot, answered, openSlot, closeSlot, roomIn, roomOf, deliveredTo}
-use Rattle.house.specs.Calls.{withOutcome, deliver, figuresOf}
+use Rattle.house.specs.House.{promisedFrom, promised, takenOf, rowsSound, openConditions, slotSound, slotsSound}
+use Rattle.house.specs.House.{conditions, sound, Lent}
+use Rattle.house.specs.Deliver.{Outcome, core, settled, pastCounts, LentCore}
+use Rattle.house.specs.Calls.{slotAt, withSlot, answered, openChecks, openSlot, slotChecks, closeSlot, roomIn}
+use Rattle.house.specs.Calls.{roomOf, coreOf, deliveredTo, settledTo, withOutcome, deliver, figuresOf}
 use Rattle.house.proofs.Laws.{lent-of}
-use Rattle.house.proofs.Delivering.{settled-plain}
+use Rattle.house.proofs.Delivering.{settled-refused, settled-taken, delivered-settled}
 
 -- ---- what soundness tells
 
 module _ (h : House) (e : sound h ≡ true) where
-  rest : (rowsSound (takenOf (h .slots)) (keysOf h) (countsOf h)
-      && (slotsSound 0 (h .slots) (keysOf h) (countsOf h) && leb (promised h) (free h)))
-      ≡ true
+  -- each of the conditions
+  told-at : (i : ℕ) → getD (conditions h) i true ≡ true
   unfolding sound
-  rest =
-      both-right (leb (h .used) rowCount)
-      (rowsSound (takenOf (h .slots)) (keysOf h) (countsOf h)
-      && (slotsSound 0 (h .slots) (keysOf h) (countsOf h) && leb (promised h) (free h))) e
+  told-at = all-at (conditions h) e
 
   pub told-within : h .used ≤ rowCount
-  unfolding sound
-  told-within =
-      leb-true (h .used) rowCount
-      (both-left (leb (h .used) rowCount)
-      (rowsSound (takenOf (h .slots)) (keysOf h) (countsOf h)
-      && (slotsSound 0 (h .slots) (keysOf h) (countsOf h) && leb (promised h) (free h))) e)
+  told-within = leb-true (h .used) rowCount (told-at 0)
 
   pub told-rows : rowsSound (takenOf (h .slots)) (keysOf h) (countsOf h) ≡ true
-  told-rows =
-      both-left (rowsSound (takenOf (h .slots)) (keysOf h) (countsOf h))
-      (slotsSound 0 (h .slots) (keysOf h) (countsOf h) && leb (promised h) (free h)) rest
-
-  last : (slotsSound 0 (h .slots) (keysOf h) (countsOf h) && leb (promised h) (free h)) ≡ true
-  last =
-      both-right (rowsSound (takenOf (h .slots)) (keysOf h) (countsOf h))
-      (slotsSound 0 (h .slots) (keysOf h) (countsOf h) && leb (promised h) (free h)) rest
+  told-rows = told-at 1
 
   pub told-slots : slotsSound 0 (h .slots) (keysOf h) (countsOf h) ≡ true
-  told-slots = both-left (slotsSound 0 (h .slots) (keysOf h) (countsOf h)) (leb (promised h) (free h)) last
+  told-slots = told-at 2
 
   pub told-rooms : promised h ≤ free h
-  told-rooms =
-      leb-true (promised h) (free h)
-      (both-right (slotsSound 0 (h .slots) (keysOf h) (countsOf h)) (leb (promised h) (free h)) last)
+  told-rooms = leb-true (promised h) (free h) (told-at 3)
 
   pub told-lent : length (h .keys) ≡ rowCount → length (h .counts) ≡ rowCount → Lent (h .keys) (h .counts) (h .used)
   told-lent long paired = lent-of h long paired told-within told-rows
@@ -90,18 +76,13 @@ pub open-told : (i : ℕ) (s : Slot) (keys counts : List ℕ) → s .taken ≡ t
     → OpenSlot i s keys counts
 unfolding slotSound
 open-told i s keys counts t e =
-    let floor = leb (s .floor) rowCount in
-    let fine = session.sound (s .session) in
-    let few = leb (s .session .standing .results) mostResults in
-    let sum = eqb (sumBy i keys counts) (s .session .standing .results) in
-    let all : (floor && (fine && (few && sum))) ≡ true = rw t at e in
-    let more = both-right floor (fine && (few && sum)) all in
-    let most = both-right fine (few && sum) more in
+    let all : all (openConditions i s keys counts) ≡ true = rw t at e in
+    let at = all-at (openConditions i s keys counts) all in
     record {
-      floor = leb-true (s .floor) rowCount (both-left floor (fine && (few && sum)) all);
-      session = both-left fine (few && sum) more;
-      few = leb-true (s .session .standing .results) mostResults (both-left few sum most);
-      sum = eqb-true (sumBy i keys counts) (s .session .standing .results) (both-right few sum most);
+      floor = leb-true (s .floor) rowCount (at 0);
+      session = at 1;
+      few = leb-true (s .session .standing .results) mostResults (at 2);
+      sum = eqb-true (sumBy i keys counts) (s .session .standing .results) (at 3);
     }
 
 pub slots-at : (k : ℕ) (slots : List Slot) (keys counts : List ℕ) (j : ℕ) (none : Slot)
@@ -116,6 +97,13 @@ slots-at k (s ∷ ss) keys counts (suc j) none e h =
     rw on
     (slots-at (suc k) ss keys counts j none
     (both-right (slotSound k s keys counts) (slotsSound (suc k) ss keys counts) e) (omega arith))
+
+-- .. an open slot of a sound house
+pub slot-told : (h : House) (slot : ℕ) → sound h ≡ true → slot < length (h .slots) → slotAt h slot .taken ≡ true
+    → OpenSlot slot (slotAt h slot) (keysOf h) (countsOf h)
+slot-told h slot e inside t =
+    open-told slot (slotAt h slot) (keysOf h) (countsOf h) t
+    (rw (zero-add slot) at (slots-at 0 (h .slots) (keysOf h) (countsOf h) slot noSlot (told-slots h e) inside))
 
 -- what is still promised to a slot is part of what is promised
 pub unfilled-within : (k : ℕ) (slots : List Slot) (keys : List ℕ) (j : ℕ) (none : Slot) → j < length slots
@@ -155,9 +143,7 @@ module _ (h : House) (e : sound h ≡ true) (long : length (h .keys) ≡ rowCoun
       (right-at (takenOf (h .slots)) (keysOf h) (countsOf h) i rows-right in-keys) in
       let there : getD (h .slots) (slotOf key) noSlot .taken ≡ true
       = sym (List·getD-map (λ (s : Slot). s .taken) (h .slots) (slotOf key) noSlot) ∙ row .1 in
-      let slot = open-told (slotOf key) (getD (h .slots) (slotOf key) noSlot) (keysOf h) (countsOf h) there
-      (rw (zero-add (slotOf key)) at (slots-at 0 (h .slots) (keysOf h) (countsOf h) (slotOf key) noSlot (told-slots h e)
-      (omega (arith, row .0)))) in
+      let slot = slot-told h (slotOf key) e (omega (arith, row .0)) there in
       omega (
         arith,
         count-within (keysOf h) (countsOf h) i (counts-long ∙ sym keys-long) in-keys,
@@ -167,6 +153,36 @@ module _ (h : House) (e : sound h ≡ true) (long : length (h .keys) ≡ rowCoun
 
   pub told-low : allBelow pastCounts (countsOf h) ≡ true
   told-low = below-all pastCounts (countsOf h) count-low
+
+-- ---- what the checks of a call say, where all hold
+
+pub record CanOpen (h : House) (slot floor : ℕ) : Type 0 where
+  pub fine : sound h ≡ true
+  pub inside : slot < slotCount
+  pub low : floor ≤ rowCount
+  pub shut : slotAt h slot .taken ≡ false
+  pub wide : floor ≤ free h - promised h
+
+pub can-open : (h : House) (slot floor : ℕ) → all (tests (openChecks h slot floor)) ≡ true → CanOpen h slot floor
+can-open h slot floor e =
+    let at = all-at (tests (openChecks h slot floor)) e in
+    record {
+      fine = at 0;
+      inside = ltb-true slot slotCount (at 1);
+      low = leb-true floor rowCount (at 2);
+      shut = not-true (slotAt h slot .taken) (at 3);
+      wide = leb-true floor (free h - promised h) (at 4);
+    }
+
+pub record IsOpen (h : House) (slot : ℕ) : Type 0 where
+  pub fine : sound h ≡ true
+  pub inside : slot < slotCount
+  pub opened : slotAt h slot .taken ≡ true
+
+pub is-open : (h : House) (slot : ℕ) → all (tests (slotChecks h slot)) ≡ true → IsOpen h slot
+is-open h slot e =
+    let at = all-at (tests (slotChecks h slot)) e in
+    record { fine = at 0; inside = ltb-true slot slotCount (at 1); opened = at 2 }
 
 -- ---- figures
 
@@ -290,16 +306,13 @@ module _ (slots : List Slot) (keys : List ℕ) (slot : ℕ) (s : Slot) (is : s �
   own-within inside =
       rw (told, seen, is) (rw (zero-add slot) at (unfilled-within 0 slots keys slot noSlot inside))
 
--- an open slot of a sound house lends its session and all rows
 -- an open slot's session is sound
 pub open-session : (h : House) (slot : ℕ) → sound h ≡ true → length (h .slots) ≡ slotCount → slot < slotCount
     → slotAt h slot .taken ≡ true
     → session.sound (slotAt h slot .session) ≡ true
-open-session h slot e slots-long inside t =
-    open-told slot (slotAt h slot) (keysOf h) (countsOf h) t
-    (rw (zero-add slot) at (slots-at 0 (h .slots) (keysOf h) (countsOf h) slot noSlot (told-slots h e)
-    (omega arith))) .session
+open-session h slot e slots-long inside t = slot-told h slot e (omega arith) t .session
 
+-- .. and the slot lends it and all rows
 pub lent-core : (h : House) (slot : ℕ) → sound h ≡ true → length (h .keys) ≡ rowCount → length (h .counts) ≡ rowCount
     → length (h .slots) ≡ slotCount → slot < slotCount → slotAt h slot .taken ≡ true
     → length (slotAt h slot .session .parts) ≡ 32
@@ -308,9 +321,7 @@ pub lent-core : (h : House) (slot : ℕ) → sound h ≡ true → length (h .key
 unfolding unfilled
 lent-core h slot e long paired slots-long inside t cells =
     let s = slotAt h slot in
-    let told = open-told slot s (keysOf h) (countsOf h) t
-    (rw (zero-add slot) at (slots-at 0 (h .slots) (keysOf h) (countsOf h) slot noSlot (told-slots h e)
-    (omega arith))) in
+    let told = slot-told h slot e (omega arith) t in
     let own : unfilled slot s (keysOf h) ≤ promised h
     = rw (zero-add slot) at (unfilled-within 0 (h .slots) (keysOf h) slot noSlot (omega arith)) in
     let unfilled-is : unfilled slot s (keysOf h) ≡ s .floor - heldBy slot (keysOf h) = rw t in
@@ -322,7 +333,7 @@ lent-core h slot e long paired slots-long inside t cells =
             low = told-low h e long paired slots-long;
             roomy = omega (arith, own, unfilled-is, told-rooms h e);
           };
-      kept = sound-kept (s .session) cells (told .session);
+      kept = sound-lent (s .session) cells (told .session);
       cells = cells;
     }
 
@@ -336,8 +347,8 @@ module _ (h : House) (slot : ℕ) {s : Slot} {room : Room} (is : s ≡ slotAt h 
       (lent-core h slot e long paired slots-long inside (ap (λ (x : Slot). x .taken) (sym is) ∙ t)
       (ap (λ (x : Slot). length (x .session .parts)) (sym is) ∙ cells))
 
-  pub laid-back : (rec : List ℕ) (o : Outcome)
-      → o ≡ delivered room (core (h .keys) (h .counts) (h .used) (s .session .standing) (s .session .parts)) rec
+  pub laid-back : (v : Verdict) (o : Outcome)
+      → o ≡ settled room (core (h .keys) (h .counts) (h .used) (s .session .standing) (s .session .parts)) v
       → answered (o .answer)
       (record {
         keys = o .core .keys;
@@ -351,24 +362,34 @@ module _ (h : House) (slot : ℕ) {s : Slot} {room : Room} (is : s ≡ slotAt h 
               session = record { standing = o .core .standing; parts = o .core .parts };
             });
       })
-      ≡ withOutcome h slot (deliveredTo h slot rec)
-  laid-back rec o did =
-      let done : o ≡ deliveredTo h slot rec = did ∙ rw (seen, is) in
+      ≡ withOutcome h slot (settledTo h slot v)
+  laid-back v o did =
+      let done : o ≡ settledTo h slot v = did ∙ rw (seen, is) in
       rw (← done, is)
 
--- .. and so is a session that no row was asked for
-pub laid-plain : (h : House) (slot : ℕ) (rec : List ℕ) (v : Verdict) (s : Slot) (next : Session) (a : Answer)
-    → s ≡ slotAt h slot → v ≡ verdictOn (s .session) rec → wantsRow v ≡ false → next ≡ after (s .session) v
-    → a ≡ plainAnswer v
-    → answered a (withSlot h slot (record { taken = s .taken; floor = s .floor; session = next }))
-    ≡ withOutcome h slot (deliveredTo h slot rec)
-unfolding delivered
-laid-plain h slot rec v s next a is said plain then told =
-    let judged : v ≡ verdictOn (slotAt h slot .session) rec = rw (← is) said in
-    rw (
-      told,
-      then,
-      is,
-      ← judged,
-      settled-plain (roomOf h slot) (h .keys) (h .counts) (h .used) (slotAt h slot .session) v plain,
-    )
+-- a slot that is laid back as it was
+pub same-slot : (h : House) (slot : ℕ) → withSlot h slot (slotAt h slot) ≡ h
+same-slot h slot =
+    ap (λ (slots : List Slot). record { keys = h .keys; counts = h .counts; used = h .used; slots = slots })
+    (set-getD (h .slots) slot noSlot)
+
+-- what a verdict that asks for no row makes of the house
+module _ (h : House) (slot : ℕ) {v : Verdict} where
+  pub laid-refused : {a : Answer} → v ≡ Refused a → answered a h ≡ withOutcome h slot (settledTo h slot v)
+  laid-refused {a} e =
+      ap (answered a) (sym (same-slot h slot))
+      ∙ ap (withOutcome h slot) (settled-refused (roomOf h slot) (coreOf h slot) e)
+
+  pub laid-taken : {s : Slot} → s ≡ slotAt h slot → {change : Change} → v ≡ Taken change → (next : Session)
+      → next ≡ changed (s .session) change
+      → answered answer.Done (withSlot h slot (record { taken = s .taken; floor = s .floor; session = next }))
+      ≡ withOutcome h slot (settledTo h slot v)
+  laid-taken is {change} e next then =
+      let after : next ≡ changed (slotAt h slot .session) change = rw (← is) then in
+      rw is (ap (withOutcome h slot) (settled-taken (roomOf h slot) (coreOf h slot) e next after))
+
+-- .. and a record that was judged, whose verdict is settled
+pub laid-judged : (h : House) (slot : ℕ) (rec : List ℕ) {v : Verdict} → v ≡ verdictOn (slotAt h slot .session) rec
+    → withOutcome h slot (settledTo h slot v) ≡ withOutcome h slot (deliveredTo h slot rec)
+laid-judged h slot rec said =
+    ap (withOutcome h slot) (delivered-settled (roomOf h slot) (coreOf h slot) rec said)

@@ -22,13 +22,15 @@ use Rattle.rows.proofs.Laws.{held-all, held-ranks, run-within, closed-none}
 use Rattle.rows.proofs.Counts.{rows-held-by, rows-at, plus-rising}
 use Rattle.session.specs.declared.Standing.{Standing}
 use Rattle.session.specs.declared.Verdict.{Verdict}
-use Rattle.session.specs.declared.Verdict.the-variants.{Refused, Taken, Opened, Wanted}
-use Rattle.session.specs.Session.{partsOf, isStart}
-use Rattle.session.specs.After as session
-use Rattle.session.specs.After.{verdictOn}
-use Rattle.session.specs.Results.{Result, None, Part, resultOf, orderIn, ofRecord}
-use Rattle.session.specs.Laws.{Follows, Begins, Tells}
-use Rattle.session.proofs.Judgement.{judged-begins, judged-tells, judged-refusal}
+use Rattle.session.specs.declared.Verdict.the-variants.{Refused, Taken, Wanted}
+use Rattle.session.specs.Session.{isStart, Follows}
+use Rattle.session.specs.Verdicts.{byItself}
+use Rattle.settling.specs.Settling.{changed}
+use Rattle.first_record.specs.First.{orderIn}
+use Rattle.later_records.specs.Results.{Result, None, Part, resultOf}
+use Rattle.judging.specs.Judge.{verdictOn}
+use Rattle.judging.specs.Laws.{Begins, Tells}
+use Rattle.judging.proofs.Laws.{judged-begins, judged-tells, judged-refusal}
 use Rattle.house.specs.declared.Slot.{Slot}
 use Rattle.house.specs.declared.House.{House}
 use Rattle.house.specs.declared.Answered.{Answered}
@@ -140,35 +142,30 @@ module _ (slot : ℕ) (t : Heard) (h : House) (p : Agree slot t h) where
 
   -- any verdict that is accepted
   agree-verdict : (rec : List ℕ) (v : Verdict) (o : Answered) → slotAt h slot .taken ≡ true → Own h slot v o
-      → ((a : Answer) → v ≡ Refused a → ofRecord a ≡ true)
-      → (isStart (slotAt h slot .session .standing .place) ≡ true → Begins rec v)
+      → ((a : Answer) → v ≡ Refused a → byItself a ≡ true)
+      → (isStart (slotAt h slot .session .standing .place) ≡ true → Begins (slotAt h slot .session) rec v)
       → (isStart (slotAt h slot .session .standing .place) ≡ false
-      → Tells (slotAt h slot .session .standing .order) rec v)
+      → Tells (slotAt h slot .session) rec v)
       → numberOf (o .answer) ≡ 0 → Agree slot (following t rec) (o .house)
-  unfolding session.after
   agree-verdict rec (Refused a) o opened own refusal begins tells done =
       let zero-number : numberOf a ≡ 0 = ap numberOf (sym (own .answer)) ∙ done in
       absurd (false≢true (sym (own-number a (refusal a refl)) ∙ ap (λ (n : ℕ). eqb n 0) zero-number))
-  agree-verdict rec (Taken next) o opened own refusal begins tells done =
-      agree-by rec (o .house) next (rowsAt h slot) opened (rw (own .stands) opened) (rw (own .stands))
-      (rw (own .stands)) (own .rows)
+  agree-verdict rec (Taken change) o opened own refusal begins tells done =
+      agree-by rec (o .house) (changed (slotAt h slot .session) change .standing) (rowsAt h slot) opened
+      (rw (own .stands) opened) (rw (own .stands)) (rw (own .stands)) (own .rows)
       (λ starts. (begins starts, refl))
       (λ further. (tells further .1, rw (tells further .0)))
-  agree-verdict rec (Opened next rank part) o opened own refusal begins tells done =
-      agree-by rec (o .house) next (rowsAt h slot) opened (rw (own .stands) opened) (rw (own .stands))
-      (rw (own .stands)) (own .rows)
-      (λ starts. absurd (begins starts))
-      (λ further. (tells further .1, rw (tells further .0)))
-  agree-verdict rec (Wanted next rank key) o opened own refusal begins tells done =
+  agree-verdict rec (Wanted change key) o opened own refusal begins tells done =
       go (granted (roomOf h slot) (keysOf h) (rowKey slot key)) (own .answer) (own .stands) (own .rows)
     where
-      go : (b : Bool) → o .answer ≡ answerBy (Wanted next rank key) b
-          → slotAt (o .house) slot ≡ nextSlot (slotAt h slot) (Wanted next rank key) b
-          → rowsAt (o .house) slot ≡ rowsAfter (rowsAt h slot) (Wanted next rank key) b
+      go : (b : Bool) → o .answer ≡ answerBy (Wanted change key) b
+          → slotAt (o .house) slot ≡ nextSlot (slotAt h slot) (Wanted change key) b
+          → rowsAt (o .house) slot ≡ rowsAfter (rowsAt h slot) (Wanted change key) b
           → Agree slot (following t rec) (o .house)
       go true is stands rows =
-          agree-by rec (o .house) next (plus key (rowsAt h slot)) opened (rw stands opened) (rw stands) (rw stands)
-          rows (λ starts. absurd (begins starts)) (λ further. (tells further .1, rw (tells further .0)))
+          agree-by rec (o .house) (changed (slotAt h slot .session) change .standing) (plus key (rowsAt h slot)) opened
+          (rw stands opened) (rw stands) (rw stands) rows (λ starts. absurd (begins starts))
+          (λ further. (tells further .1, rw (tells further .0)))
       go false is stands rows = absurd (omega (arith, ap numberOf is, done))
 
   module _ (shape : Shaped h) (e : sound h ≡ true) where
@@ -217,9 +214,9 @@ module _ (slot : ℕ) (t : Heard) (h : House) (p : Agree slot t h) where
         let opened = holds (slotAt h slot .taken) _ 1 (inside .1) .0 in
         agree-verdict rec v (deliver h slot rec) opened
         (own-deliver h slot shape e (ltb-true slot slotCount (inside .0)) rec bytes opened)
-        (λ a is. judged-refusal (s .standing) (partsOf s) rec a is)
-        (λ starts. judged-begins (s .standing) (partsOf s) rec starts)
-        (λ further. judged-tells (s .standing) (partsOf s) rec further) done
+        (λ a is. judged-refusal s rec a is)
+        (λ starts. judged-begins s rec starts)
+        (λ further. judged-tells s rec further) done
 
     -- a call that is done, on its own slot
     agree-done : (c : Call) → Sent c → names slot c ≡ true → numberOf (answerOf (reply h c)) ≡ 0
@@ -477,12 +474,11 @@ never-refused calls slot rec sent bytes below refused = go (told .opened) refl
     verdict : Verdict
     verdict = verdictOn (slotAt h slot .session) rec
 
-    by : (v : Verdict) → ((a : Answer) → v ≡ Refused a → ofRecord a ≡ true)
+    by : (v : Verdict) → ((a : Answer) → v ≡ Refused a → byItself a ≡ true)
         → heldBy slot (keysOf h) < slotAt h slot .floor → answerBy v (roomFor h slot v) ≡ NoRoom → ⊥
-    by (Refused a) own low is = false≢true (sym (ap ofRecord is) ∙ own a refl)
-    by (Taken next) own low is = omega (arith, ap numberOf is)
-    by (Opened next rank part) own low is = omega (arith, ap numberOf is)
-    by (Wanted next rank key) own low is =
+    by (Refused a) own low is = false≢true (sym (ap byItself is) ∙ own a refl)
+    by (Taken change) own low is = omega (arith, ap numberOf is)
+    by (Wanted change key) own low is =
         let got = granted-below (roomOf h slot) (keysOf h) (rowKey slot key) low in
         omega (arith, ap numberOf (rw got at is))
 
@@ -493,6 +489,6 @@ never-refused calls slot rec sent bytes below refused = go (told .opened) refl
         let shape = reached-shaped calls sent in
         let inside : slot < slotCount = omega (arith, open-within (h .slots) slot taken, shape .slots) in
         let s = slotAt h slot .session in
-        by verdict (λ a is. judged-refusal (s .standing) (partsOf s) rec a is)
+        by verdict (λ a is. judged-refusal s rec a is)
         (omega (arith, told-held calls sent slot, agrees .floor, below))
         (sym (own-deliver h slot shape (reached-sound calls sent) inside rec bytes taken .answer) ∙ refused)

@@ -1,7 +1,7 @@
 -- Laws of a delivery over lent rows, as the functions' proofs cite them.
 -- Assumes nothing.
-use mathlib.Core.Path.{_≡_, refl, ap}
-use mathlib.Core.Bool.{Bool, true, false, _||_, true≢false}
+use mathlib.Core.Path.{_≡_, refl, ap, _∙_}
+use mathlib.Core.Bool.{Bool, true, false, _||_}
 use mathlib.Core.List.{List, [], _∷_}
 use Prim.Native.Nat.{ℕ, zero, suc, _+_, _-_, _≤_, _<_}
 use native.Mathlib.Omega.{arith}
@@ -17,16 +17,19 @@ use Rattle.rising.proofs.Laws.{held-rank}
 use Rattle.rows.specs.Rows.{heldBy, rowKey, Rows, rows, counted, Countable}
 use Rattle.session.specs.declared.Session.{Session}
 use Rattle.session.specs.declared.Standing.{Standing}
+use Rattle.session.specs.declared.Change.{Change}
 use Rattle.session.specs.declared.Verdict.{Verdict}
-use Rattle.session.specs.declared.Verdict.the-variants.{Refused, Taken, Opened, Wanted}
-use Rattle.session.specs.Judge.{judge}
-use Rattle.session.specs.After.{partOpened, partClosed, after}
+use Rattle.session.specs.declared.Verdict.the-variants.{Refused, Taken, Wanted}
+use Rattle.session.specs.Verdicts.{stands}
+use Rattle.settling.specs.Settling.{changed}
+use Rattle.settling.proofs.Laws.{changed-stands}
+use Rattle.judging.specs.Judge.{judge}
 use Rattle.house.specs.declared.Room.{Room}
 use Rattle.house.specs.declared.Granting.{Granting}
 use Rattle.house.specs.declared.Granting.the-variants as granting
 use Rattle.house.specs.House.{rowCount}
-use Rattle.house.specs.Deliver.{granted, rowed, rowTaken, core, outcome, resultedIf, settled, delivered}
-use Rattle.house.specs.Deliver.{Core, wantsRow, plainAnswer, cellOf, noted, guessed, pastCounts, LentRows}
+use Rattle.house.specs.Deliver.{granted, rowed, rowTaken, core, outcome, told, sessionOf, resultedIf, settled}
+use Rattle.house.specs.Deliver.{delivered, Core, cellOf, noted, guessed, pastCounts, LentRows}
 use Rattle.house.proofs.Laws.{lent-kept}
 
 -- ---- the grant rules
@@ -113,71 +116,68 @@ module _ (room : Room) (keys counts : List ℕ) (used key : ℕ) where
 
 -- ---- a part result
 
-module _ (room : Room) (keys counts : List ℕ) (used : ℕ) (st : Standing) (parts : List ℕ) (next : Standing)
-    (at key k : ℕ) (keyed : k ≡ rowKey (room .slot) key) (ks cs : List ℕ) (g : Granting)
-    (is : rowed ks cs g ≡ rowTaken room keys counts used k) where
-  pub resulted-rows : (n : ℕ) (cells : List ℕ) → g ≡ granting.Rows n → cells ≡ partClosed parts (st .opened) at
-      → outcome answer.Done ks cs n next cells ≡ resultedIf room keys counts used st parts next at key
+module _ (room : Room) (c : Core) (change : Change) (key k : ℕ) (keyed : k ≡ rowKey (room .slot) key) (ks cs : List ℕ)
+    (g : Granting) (is : rowed ks cs g ≡ rowTaken room (c .keys) (c .counts) (c .used) k) where
+  pub resulted-rows : (n : ℕ) (s : Session) → g ≡ granting.Rows n → s ≡ changed (sessionOf c) change
+      → told answer.Done ks cs n s ≡ resultedIf room c change key
   unfolding resultedIf
-  resulted-rows n cells got closed = rw (← keyed, ← is, got, closed)
+  resulted-rows n s got then = rw (← keyed, ← is, got, then)
 
   pub resulted-none : g ≡ granting.NoRoom
-      → outcome answer.NoRoom ks cs used st parts ≡ resultedIf room keys counts used st parts next at key
+      → told answer.NoRoom ks cs (c .used) (sessionOf c) ≡ resultedIf room c change key
   unfolding resultedIf
   resulted-none got = rw (← keyed, ← is, got)
 
--- ---- any record
+-- ---- a verdict, and any record
 
-module _ (room : Room) (keys counts : List ℕ) (used : ℕ) (st : Standing) (parts rec : List ℕ) where
-  pub delivered-refused : (a : Answer) → judge st (take (st .opened) parts) rec ≡ Refused a
-      → outcome a keys counts used st parts ≡ delivered room (core keys counts used st parts) rec
-  unfolding delivered settled
-  delivered-refused a e = rw e
+module _ (room : Room) (c : Core) {v : Verdict} where
+  pub settled-refused : {a : Answer} → v ≡ Refused a
+      → told a (c .keys) (c .counts) (c .used) (sessionOf c) ≡ settled room c v
+  unfolding settled
+  settled-refused e = rw e
 
-  module _ (next : Standing) where
-    pub delivered-taken : judge st (take (st .opened) parts) rec ≡ Taken next
-        → outcome answer.Done keys counts used next parts ≡ delivered room (core keys counts used st parts) rec
-    unfolding delivered settled
-    delivered-taken e = rw e
+  pub settled-taken : {change : Change} → v ≡ Taken change → (s : Session) → s ≡ changed (sessionOf c) change
+      → told answer.Done (c .keys) (c .counts) (c .used) s ≡ settled room c v
+  unfolding settled
+  settled-taken e s then = rw (e, then)
 
-    pub delivered-opened : (at part : ℕ) → judge st (take (st .opened) parts) rec ≡ Opened next at part
-        → (cells : List ℕ) → cells ≡ partOpened parts (st .opened) at part
-        → outcome answer.Done keys counts used next cells ≡ delivered room (core keys counts used st parts) rec
-    unfolding delivered settled
-    delivered-opened at part e cells is = rw (e, is)
+  pub settled-wanted : {change : Change} {key : ℕ} → v ≡ Wanted change key
+      → resultedIf room c change key ≡ settled room c v
+  unfolding settled
+  settled-wanted e = rw e
 
-    pub delivered-wanted : (at key : ℕ) → judge st (take (st .opened) parts) rec ≡ Wanted next at key
-        → resultedIf room keys counts used st parts next at key ≡ delivered room (core keys counts used st parts) rec
-    unfolding delivered settled
-    delivered-wanted at key e = rw e
+module _ (room : Room) (c : Core) (rec : List ℕ) where
+  pub delivered-settled : {v : Verdict} → v ≡ judge (c .standing) (take (c .standing .opened) (c .parts)) rec
+      → settled room c v ≡ delivered room c rec
+  unfolding delivered
+  delivered-settled is = rw is
 
--- a verdict that asks for no row changes the session alone
-pub settled-plain : (room : Room) (keys counts : List ℕ) (used : ℕ) (s : Session) (v : Verdict) → wantsRow v ≡ false
-    → settled room (core keys counts used (s .standing) (s .parts)) v
-    ≡ outcome (plainAnswer v) keys counts used (after s v .standing) (after s v .parts)
-unfolding settled after
-settled-plain room keys counts used s (Refused a) e = refl
-settled-plain room keys counts used s (Taken next) e = refl
-settled-plain room keys counts used s (Opened next rank part) e = refl
-settled-plain room keys counts used s (Wanted next rank key) e = absurd (true≢false e)
+  -- a record that moves the standing alone
+  pub delivered-stands : (next : Standing)
+      → judge (c .standing) (take (c .standing .opened) (c .parts)) rec ≡ Taken (stands next)
+      → outcome answer.Done (c .keys) (c .counts) (c .used) next (c .parts) ≡ delivered room c rec
+  delivered-stands next e =
+      settled-taken room c e (record { standing = next; parts = c .parts })
+      (changed-stands (c .standing) (c .parts) refl)
+      ∙ delivered-settled refl
 
 -- ---- what is noted for the next search
 
--- nothing, by a verdict that asks for no row
-pub unguessed : (room : Room) (c : Core) (v : Verdict) (guesses : List ℕ) → wantsRow v ≡ false
-    → guesses ≡ guessed room c v guesses
-unfolding guessed
-unguessed room c (Refused a) guesses e = refl
-unguessed room c (Taken next) guesses e = refl
-unguessed room c (Opened next rank part) guesses e = refl
-unguessed room c (Wanted next rank key) guesses e = absurd (true≢false e)
+module _ (room : Room) (c : Core) {v : Verdict} (guesses : List ℕ) where
+  pub guessed-refused : {a : Answer} → v ≡ Refused a → guesses ≡ guessed room c v guesses
+  unfolding guessed
+  guessed-refused e = rw e
+
+  pub guessed-taken : {change : Change} → v ≡ Taken change → guesses ≡ guessed room c v guesses
+  unfolding guessed
+  guessed-taken e = rw e
+
+  pub guessed-wanted : {change : Change} {key : ℕ} → v ≡ Wanted change key
+      → noted (room .slot) (take (c .used) (c .keys)) key guesses ≡ guessed room c v guesses
+  unfolding guessed
+  guessed-wanted e = rw e
 
 -- a part result's rank, in its key's cell
 pub result-noted : (slot : ℕ) (keys : List ℕ) (key : ℕ) (guesses : List ℕ) {cell k : ℕ} → cell ≡ cellOf key
     → k ≡ rowKey slot key → set guesses cell (rank k keys) ≡ noted slot keys key guesses
 result-noted slot keys key guesses at keyed = rw (at, keyed)
-
-pub guessed-wanted : (room : Room) (c : Core) {v : Verdict} (guesses : List ℕ) {next : Standing} {at key : ℕ}
-    → v ≡ Wanted next at key → noted (room .slot) (take (c .used) (c .keys)) key guesses ≡ guessed room c v guesses
-unfolding guessed
-guessed-wanted room c guesses e = rw e

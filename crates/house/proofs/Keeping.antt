@@ -2,17 +2,17 @@
 -- new slot and any new rows, by what it leaves to the others.
 -- Assumes nothing.
 use mathlib.Core.Path.{_≡_, refl, ap, sym, _∙_}
-use mathlib.Core.Bool.{Bool, true, false, cond, not, _||_}
+use mathlib.Core.Bool.{Bool, true, false, cond, _&&_, _||_}
 use mathlib.Core.List.{List, [], _∷_}
 use Prim.Native.Nat.{ℕ, zero, suc, _+_, _-_, _/_, _%_, _≤_, _<_}
 use native.Mathlib.Nat.{add-zero, zero-add}
 use native.Mathlib.Omega.{arith}
-use borrow.Author.Tests.{le-leb, lt-ltb, leb-true, ltb-true, ltb-false, eq-eqb, ne-eqb, not-true}
-use lib.Dec.{leb, ltb, eqb}
+use borrow.Author.Tests.{le-leb, lt-ltb, ltb-true, ltb-false, eq-eqb, ne-eqb}
+use lib.Dec.{ltb, eqb}
 use lib.ListN.{length, getD, set, replicate, length-set, List·getD-map}
 use lib.Seq.{map-set-same, length-take-le, getD-set-same, getD-set-other}
-use Rattle.prelude.specs.Choice.{_unless_then_}
-use Rattle.prelude.proofs.Both.{both-left, both-right}
+use Rattle.prelude.proofs.Both.{both-right}
+use Rattle.prelude.proofs.Checks.{checked-by}
 use Rattle.numbers.specs.Laws.{Bytes}
 use Rattle.answers.specs.declared.Answer.the-variants.{Done}
 use Rattle.rising.specs.Rising.{rising, risingFrom, held}
@@ -23,29 +23,31 @@ use Rattle.rows.proofs.Changes.{counted-length, counted-used, counted-kept, cou
 use Rattle.rows.proofs.Changes.{counted-right, dropped-length}
 use Rattle.rows.proofs.Changes.{dropped-used, dropped-kept, dropped-held-other, dropped-sum-other, dropped-right}
 use Rattle.session.specs.declared.Session.{Session}
-use Rattle.session.specs.declared.Standing.{Standing}
+use Rattle.session.specs.declared.Change.{Change}
 use Rattle.session.specs.declared.Verdict.{Verdict}
-use Rattle.session.specs.declared.Verdict.the-variants.{Refused, Taken, Opened, Wanted}
-use Rattle.session.specs.Laws as verdict
-use Rattle.session.specs.Laws.{KeyRight}
-use Rattle.session.specs.After.{after, verdictOn}
+use Rattle.session.specs.declared.Verdict.the-variants.{Refused, Taken, Wanted}
 use Rattle.session.specs.Session as session
 use Rattle.session.specs.Session.{mostOpen, mostResults, pastParts}
-use Rattle.session.proofs.Judgement.{begun-sound, judged-sound, judged-counts, judged-few, judged-key, judged-long}
+use Rattle.session.proofs.Laws.{begun-sound}
+use Rattle.settling.specs.Settling.{changed, after, countedParts}
+use Rattle.judging.specs.Judge.{verdictOn}
+use Rattle.judging.specs.Laws.{KeyRight}
+use Rattle.judging.proofs.Laws.{judged-sound, judged-counts, judged-few, judged-key, judged-long}
 use Rattle.house.specs.declared.Slot.{Slot}
 use Rattle.house.specs.declared.House.{House}
 use Rattle.house.specs.declared.Answered.{Answered}
 use Rattle.house.specs.House.{rowCount, noSlot, closedSlot, openedSlot, fresh, keysOf, countsOf, free, unfilled}
 use Rattle.house.specs.House.{promisedFrom, promised, takenOf, rowsSound, slotSound, slotsSound, sound}
-use Rattle.house.specs.Deliver.{core, granted, rowTaken, resultedIf, settled}
+use Rattle.house.specs.Deliver.{granted, rowTaken, resultedIf, settled}
 use Rattle.house.specs.Deliver.{delivered, LentCore}
-use Rattle.house.specs.Calls.{slotAt, withSlot, openSlot, closed, closeSlot, roomOf, withOutcome}
-use Rattle.house.specs.Calls.{deliver}
+use Rattle.house.specs.Calls.{refusal, openChecks, slotChecks}
+use Rattle.house.specs.Calls.{slotAt, withSlot, openSlot, closed, closeSlot, roomOf, coreOf, settledTo}
+use Rattle.house.specs.Calls.{withOutcome, deliver}
 use Rattle.house.specs.Laws.{Shaped, FreshSound, OpenKeeps, CloseKeeps, DeliverKeeps, BelowFloor}
 use Rattle.house.specs.Laws.{ReachedSound}
 use Rattle.house.specs.History as calls
 use Rattle.house.specs.History.{Call, Open, Deliver, Report, Close, Figured, reached, Sent, AllSent}
-use Rattle.house.proofs.Calling.{OpenSlot, open-told, slots-at, unfilled-within, lent-core}
+use Rattle.house.proofs.Calling.{OpenSlot, slot-told, unfilled-within, lent-core, can-open, is-open}
 use Rattle.house.proofs.Calling.{told-within, told-rows, told-slots, told-rooms}
 use Rattle.house.proofs.Delivering.{granted-room}
 use Rattle.house.proofs.Reporting.{told-rises}
@@ -87,70 +89,86 @@ taken-set [] i s = refl
 taken-set (x ∷ xs) zero s = refl
 taken-set (x ∷ xs) (suc i) s = ap (λ (r : List Bool). x .taken ∷ r) (taken-set xs i s)
 
-slot-same : (i : ℕ) (s : Slot) (keys counts ks cs : List ℕ) → sumBy i ks cs ≡ sumBy i keys counts
-    → slotSound i s keys counts ≡ true → slotSound i s ks cs ≡ true
+-- what the slots from the k-th on come to together: whether all are right, or what is promised to all
+abbrev over : {A : Type 0} → (A → A → A) → A → (ℕ → Slot → A) → ℕ → List Slot → A
+over join none f k [] = none
+over join none f k (s ∷ ss) = join (f k s) (over join none f (suc k) ss)
+
+-- what it was and what it is, apart from one slot
+record Apart {A : Type 0} (join : A → A → A) (before after own next : A) : Type 0 where
+  rest : A
+  was : before ≡ join own rest
+  is : after ≡ join next rest
+
+module _ {A : Type 0} (join : A → A → A) (none : A) (swap : (a b c : A) → join a (join b c) ≡ join b (join a c))
+    (f g : ℕ → Slot → A) where
+  over-same : (k : ℕ) (slots : List Slot) → ((j : ℕ) (x : Slot) → k ≤ j → g j x ≡ f j x)
+      → over join none g k slots ≡ over join none f k slots
+  over-same k [] same = refl
+  over-same k (s ∷ ss) same =
+      rw (same k s (omega arith), over-same (suc k) ss (λ j x h. same j x (omega (arith, h))))
+
+  -- one slot changed, and all others come to what they did
+  over-one : (k : ℕ) (slots : List Slot) (i : ℕ) (s : Slot) → i < length slots
+      → ((j : ℕ) (x : Slot) → (j ≡ k + i → ⊥) → g j x ≡ f j x)
+      → Apart join (over join none f k slots) (over join none g k (set slots i s)) (f (k + i) (getD slots i noSlot))
+      (g (k + i) s)
+  over-one k [] i s h same = absurd (omega arith)
+  over-one k (x ∷ xs) zero s h same =
+      record {
+        rest = over join none f (suc k) xs;
+        was = rw (add-zero k);
+        is = rw (add-zero k, over-same (suc k) xs (λ j y l. same j y (λ q. omega (arith, l, q))));
+      }
+  over-one k (x ∷ xs) (suc i) s h same =
+      let on : k + suc i ≡ suc k + i = omega arith in
+      let p = over-one (suc k) xs i s (omega arith) (λ j y ne. same j y (λ q. ne (omega (arith, q)))) in
+      record {
+        rest = join (f k x) (p .rest);
+        was = rw (on, p .was) (swap (f k x) (f (suc k + i) (getD xs i noSlot)) (p .rest));
+        is = rw (on, same k x (λ q. omega (arith, q)), p .is) (swap (f k x) (g (suc k + i) s) (p .rest));
+      }
+
+slots-over : (keys counts : List ℕ) (k : ℕ) (slots : List Slot)
+    → slotsSound k slots keys counts ≡ over _&&_ true (λ (j : ℕ) (s : Slot). slotSound j s keys counts) k slots
+unfolding slotsSound
+slots-over keys counts k [] = refl
+slots-over keys counts k (s ∷ ss) = rw (slots-over keys counts (suc k) ss)
+
+slots-one : (keys counts ks cs : List ℕ) (slots : List Slot) (i : ℕ) (s : Slot) → i < length slots
+    → ((j : ℕ) → (j ≡ i → ⊥) → sumBy j ks cs ≡ sumBy j keys counts) → slotsSound 0 slots keys counts ≡ true
+    → slotSound i s ks cs ≡ true → slotsSound 0 (set slots i s) ks cs ≡ true
 unfolding slotSound
-slot-same i s keys counts ks cs same e = rw same e
+slots-one keys counts ks cs slots i s inside same e right =
+    let one = rw (zero-add i) at
+    (over-one _&&_ true swap (λ (j : ℕ) (x : Slot). slotSound j x keys counts)
+    (λ (j : ℕ) (x : Slot). slotSound j x ks cs) 0 slots i s inside
+    (λ j x ne. rw (same j (λ q. ne (omega (arith, q)))))) in
+    let rest = both-right (slotSound i (getD slots i noSlot) keys counts) (one .rest)
+    (sym (one .was) ∙ sym (slots-over keys counts 0 slots) ∙ e) in
+    slots-over ks cs 0 (set slots i s) ∙ one .is ∙ rw (right, rest)
+  where
+    swap : (a b c : Bool) → (a && (b && c)) ≡ (b && (a && c))
+    swap true b c = refl
+    swap false true c = refl
+    swap false false c = refl
 
-module _ (keys counts ks cs : List ℕ) where
-  slots-same : (k : ℕ) (slots : List Slot) → ((j : ℕ) → k ≤ j → sumBy j ks cs ≡ sumBy j keys counts)
-      → slotsSound k slots keys counts ≡ true → slotsSound k slots ks cs ≡ true
-  unfolding slotsSound
-  slots-same k [] f e = refl
-  slots-same k (s ∷ ss) f e =
-      rw (
-        slot-same k s keys counts ks cs (f k (omega arith))
-            (both-left (slotSound k s keys counts) (slotsSound (suc k) ss keys counts) e),
-        slots-same (suc k) ss (λ j g. f j (omega (arith, g)))
-            (both-right (slotSound k s keys counts) (slotsSound (suc k) ss keys counts) e),
-      )
+promised-over : (keys : List ℕ) (k : ℕ) (slots : List Slot)
+    → promisedFrom k slots keys ≡ over _+_ 0 (λ (j : ℕ) (s : Slot). unfilled j s keys) k slots
+unfolding promisedFrom
+promised-over keys k [] = refl
+promised-over keys k (s ∷ ss) = rw (promised-over keys (suc k) ss)
 
-  slots-one : (k : ℕ) (slots : List Slot) (i : ℕ) (s : Slot)
-      → ((j : ℕ) → (j ≡ k + i → ⊥) → sumBy j ks cs ≡ sumBy j keys counts)
-      → slotsSound k slots keys counts ≡ true → slotSound (k + i) s ks cs ≡ true
-      → slotsSound k (set slots i s) ks cs ≡ true
-  unfolding slotsSound
-  slots-one k [] i s f e right = refl
-  slots-one k (x ∷ xs) zero s f e right =
-      rw (
-        (rw (add-zero k) at right),
-        slots-same (suc k) xs (λ j g. f j (λ q. omega (arith, g, q)))
-            (both-right (slotSound k x keys counts) (slotsSound (suc k) xs keys counts) e),
-      )
-  slots-one k (x ∷ xs) (suc i) s f e right =
-      let on : k + suc i ≡ suc k + i = omega arith in
-      rw (
-        slot-same k x keys counts ks cs (f k (λ q. omega (arith, q)))
-            (both-left (slotSound k x keys counts) (slotsSound (suc k) xs keys counts) e),
-        slots-one (suc k) xs i s (λ j g. f j (λ q. g (omega (arith, q))))
-            (both-right (slotSound k x keys counts) (slotsSound (suc k) xs keys counts) e) (rw on at right),
-      )
-
-module _ (keys ks : List ℕ) where
-  unfilled-same : (i : ℕ) (s : Slot) → heldBy i ks ≡ heldBy i keys → unfilled i s ks ≡ unfilled i s keys
-  unfolding unfilled
-  unfilled-same i s same = rw same
-
-  promised-same : (k : ℕ) (slots : List Slot) → ((j : ℕ) → k ≤ j → heldBy j ks ≡ heldBy j keys)
-      → promisedFrom k slots ks ≡ promisedFrom k slots keys
-  unfolding promisedFrom
-  promised-same k [] f = refl
-  promised-same k (s ∷ ss) f =
-      rw (unfilled-same k s (f k (omega arith)), promised-same (suc k) ss (λ j g. f j (omega (arith, g))))
-
-  promised-one : (k : ℕ) (slots : List Slot) (i : ℕ) (s : Slot) → i < length slots
-      → ((j : ℕ) → (j ≡ k + i → ⊥) → heldBy j ks ≡ heldBy j keys)
-      → promisedFrom k (set slots i s) ks + unfilled (k + i) (getD slots i noSlot) keys
-      ≡ promisedFrom k slots keys + unfilled (k + i) s ks
-  unfolding promisedFrom
-  promised-one k [] i s h f = absurd (omega arith)
-  promised-one k (x ∷ xs) zero s h f =
-      let rest = promised-same (suc k) xs (λ j g. f j (λ q. omega (arith, g, q))) in
-      rw (add-zero k) (omega (arith, rest))
-  promised-one k (x ∷ xs) (suc i) s h f =
-      let on : k + suc i ≡ suc k + i = omega arith in
-      let same = unfilled-same k x (f k (λ q. omega (arith, q))) in
-      rw on (omega (arith, same, promised-one (suc k) xs i s (omega arith) (λ j g. f j (λ q. g (omega (arith, q))))))
+promised-one : (keys ks : List ℕ) (slots : List Slot) (i : ℕ) (s : Slot) → i < length slots
+    → ((j : ℕ) → (j ≡ i → ⊥) → heldBy j ks ≡ heldBy j keys)
+    → promisedFrom 0 (set slots i s) ks + unfilled i (getD slots i noSlot) keys
+    ≡ promisedFrom 0 slots keys + unfilled i s ks
+unfolding unfilled
+promised-one keys ks slots i s inside same =
+    let one = rw (zero-add i) at
+    (over-one _+_ 0 (λ a b c. omega arith) (λ (j : ℕ) (x : Slot). unfilled j x keys)
+    (λ (j : ℕ) (x : Slot). unfilled j x ks) 0 slots i s inside (λ j x ne. rw (same j (λ q. ne (omega (arith, q)))))) in
+    omega (arith, promised-over keys 0 slots, promised-over ks 0 (set slots i s), one .was, one .is)
 
 unfilled-most : (i : ℕ) (s : Slot) (keys : List ℕ) → unfilled i s keys ≤ s .floor
 unfolding unfilled
@@ -168,15 +186,8 @@ fresh-sound = refl
 
 -- ---- open
 
--- a check that refuses leaves the house as it was, and so what is known of it
-pub unless-by : (P : House → Type 0) (a : Answered) (t : Bool) (b : Answered) → P (a .house) → (t ≡ true → P (b .house))
-    → P ((a unless t then b) .house)
-unless-by P a true b kept f = f refl
-unless-by P a false b kept f = kept
-
-unless-keeps : (a : Answered) (t : Bool) (b : Answered) → sound (a .house) ≡ true → (t ≡ true → sound (b .house) ≡ true)
-    → sound ((a unless t then b) .house) ≡ true
-unless-keeps = unless-by (λ (h : House). sound h ≡ true)
+abbrev Sound : Answered → Type 0
+Sound o = sound (o .house) ≡ true
 
 module _ (h : House) (slot : ℕ) (shape : Shaped h) (e : sound h ≡ true) (inside : slot < slotCount) where
   pub keys-kept : Kept (h .keys) (h .counts) (h .used)
@@ -203,12 +214,12 @@ module _ (h : House) (slot : ℕ) (shape : Shaped h) (e : sound h ≡ true) (ins
       record { floor = low; session = begun-sound; few = omega arith; sum = none .1 } in
       sound-by (withSlot h slot s) (told-within h e) (told-rises h e)
       (rw (taken-set (h .slots) slot s) (right-open (takenOf (h .slots)) keys counts slot (told-right h e)))
-      (slots-one keys counts keys counts 0 (h .slots) slot s (λ j g. refl) (told-slots h e)
-      (rw (zero-add slot) (slot-right slot s keys counts refl right)))
+      (slots-one keys counts keys counts (h .slots) slot s there (λ j g. refl) (told-slots h e)
+      (slot-right slot s keys counts refl right))
       (omega (
         arith,
-        promised-one keys keys 0 (h .slots) slot s there (λ j g. refl),
-        unfilled-most (0 + slot) s keys,
+        promised-one keys keys (h .slots) slot s there (λ j g. refl),
+        unfilled-most slot s keys,
         told-rooms h e,
         room,
       ))
@@ -223,14 +234,14 @@ module _ (h : House) (slot : ℕ) (shape : Shaped h) (e : sound h ≡ true) (ins
       (dropped-kept (h .keys) (h .counts) (h .used) slot keys-kept .rises)
       (rw (taken-set (h .slots) slot closedSlot)
       (dropped-right (takenOf (h .slots)) (h .keys) (h .counts) (h .used) slot keys-kept (told-right h e)))
-      (slots-one keys counts (keysUsed rows) (countsUsed rows) 0 (h .slots) slot closedSlot
+      (slots-one keys counts (keysUsed rows) (countsUsed rows) (h .slots) slot closedSlot there
       (λ j g. dropped-sum-other (h .keys) (h .counts) (h .used) slot j keys-kept (λ q. g (omega (arith, q))))
-      (told-slots h e) (closed-right (0 + slot) (keysUsed rows) (countsUsed rows)))
+      (told-slots h e) (closed-right slot (keysUsed rows) (countsUsed rows)))
       (omega (
         arith,
-        promised-one keys (keysUsed rows) 0 (h .slots) slot closedSlot there
+        promised-one keys (keysUsed rows) (h .slots) slot closedSlot there
             (λ j g. dropped-held-other (h .keys) (h .counts) (h .used) slot j keys-kept (λ q. g (omega (arith, q)))),
-        unfilled-most (0 + slot) closedSlot (keysUsed rows),
+        unfilled-most slot closedSlot (keysUsed rows),
         told-rooms h e,
         fewer,
       ))
@@ -238,21 +249,16 @@ module _ (h : House) (slot : ℕ) (shape : Shaped h) (e : sound h ≡ true) (ins
 pub open-keeps : OpenKeeps
 unfolding openSlot
 open-keeps h slot floor shape e =
-    unless-keeps _ (sound h) _ e (λ fine.
-    unless-keeps _ (ltb slot slotCount) _ e (λ inside.
-    unless-keeps _ (leb floor rowCount) _ e (λ low.
-    unless-keeps _ (not (slotAt h slot .taken)) _ e (λ shut.
-    unless-keeps _ (leb floor (free h - promised h)) _ e (λ room.
-    opened-sound h slot shape e (ltb-true slot slotCount inside) floor (leb-true floor rowCount low)
-    (not-true (slotAt h slot .taken) shut) (leb-true floor (free h - promised h) room))))))
+    checked-by (refusal h) Sound (openChecks h slot floor) _ (λ a. e) (λ all.
+    let ok = can-open h slot floor all in
+    opened-sound h slot shape e (ok .inside) floor (ok .low) (ok .shut) (ok .wide))
 
 pub close-keeps : CloseKeeps
 unfolding closeSlot
 close-keeps h slot shape e =
-    unless-keeps _ (sound h) _ e (λ fine.
-    unless-keeps _ (ltb slot slotCount) _ e (λ inside.
-    unless-keeps _ (slotAt h slot .taken) _ e (λ t.
-    closed-sound h slot shape e (ltb-true slot slotCount inside) t)))
+    checked-by (refusal h) Sound (slotChecks h slot) _ (λ a. e) (λ all.
+    let ok = is-open h slot all in
+    closed-sound h slot shape e (ok .inside) (ok .opened))
 
 -- ---- deliver
 
@@ -300,10 +306,7 @@ module _ (h : House) (slot : ℕ) (shape : Shaped h) (e : sound h ≡ true) (ins
   counts = countsOf h
 
   told : OpenSlot slot s keys counts
-  told =
-      open-told slot s keys counts t
-      (rw (zero-add slot) at
-      (slots-at 0 (h .slots) keys counts slot noSlot (told-slots h e) (there h slot shape e inside)))
+  told = slot-told h slot e (there h slot shape e inside) t
 
   -- a session that counts no part more keeps its rows
   session-sound : (ses : Session) → session.sound ses ≡ true → ses .standing .results ≡ s .session .standing .results
@@ -319,13 +322,13 @@ module _ (h : House) (slot : ℕ) (shape : Shaped h) (e : sound h ≡ true) (ins
       } in
       sound-by (withSlot h slot next) (told-within h e) (told-rises h e)
       (rw (map-set-same (λ (s : Slot). s .taken) (h .slots) slot next noSlot refl) (told-right h e))
-      (slots-one keys counts keys counts 0 (h .slots) slot next (λ j g. refl) (told-slots h e)
-      (rw (zero-add slot) (slot-right slot next keys counts t right)))
+      (slots-one keys counts keys counts (h .slots) slot next (there h slot shape e inside) (λ j g. refl)
+      (told-slots h e) (slot-right slot next keys counts t right))
       (omega (
         arith,
-        promised-one keys keys 0 (h .slots) slot next (there h slot shape e inside) (λ j g. refl),
-        unfilled-open (0 + slot) next keys t,
-        unfilled-open (0 + slot) s keys t,
+        promised-one keys keys (h .slots) slot next (there h slot shape e inside) (λ j g. refl),
+        unfilled-open slot next keys t,
+        unfilled-open slot s keys t,
         told-rooms h e,
       ))
 
@@ -365,15 +368,15 @@ module _ (h : House) (slot : ℕ) (shape : Shaped h) (e : sound h ≡ true) (ins
           le-leb (binOf row) mostBin (key-bin slot key (right .1)),
         )
 
-    other : (j : ℕ) → (j ≡ 0 + slot → ⊥) → eqb (slotOf row) j ≡ false
+    other : (j : ℕ) → (j ≡ slot → ⊥) → eqb (slotOf row) j ≡ false
     other j g = ne-eqb (slotOf row) j (λ q. g (omega (arith, q, own)))
 
-    sums : (j : ℕ) → (j ≡ 0 + slot → ⊥) → sumBy j (keysUsed rows) (countsUsed rows) ≡ sumBy j keys counts
+    sums : (j : ℕ) → (j ≡ slot → ⊥) → sumBy j (keysUsed rows) (countsUsed rows) ≡ sumBy j keys counts
     sums j g =
         let sum = counted-sum-by j (h .keys) (h .counts) (h .used) row kept room in
         omega (arith, rw (other j g) at sum)
 
-    helds : (j : ℕ) → (j ≡ 0 + slot → ⊥) → heldBy j (keysUsed rows) ≡ heldBy j keys
+    helds : (j : ℕ) → (j ≡ slot → ⊥) → heldBy j (keysUsed rows) ≡ heldBy j keys
     helds j g =
         let all = counted-held-by j (h .keys) (h .counts) (h .used) row kept room in
         go (held row keys) (rw (other j g) at all)
@@ -421,12 +424,8 @@ module _ (h : House) (slot : ℕ) (shape : Shaped h) (e : sound h ≡ true) (ins
         all : promisedFrom 0 (set (h .slots) slot next) (keysUsed rows) + (s .floor - heldBy slot keys)
             ≡ promised h + (s .floor - heldBy slot (keysUsed rows))
         all =
-            let is = promised-one keys (keysUsed rows) 0 (h .slots) slot next (there h slot shape e inside) helds in
-            rw (
-              zero-add slot,
-              unfilled-open slot s keys t,
-              unfilled-open slot next (keysUsed rows) t,
-            ) at is
+            let is = promised-one keys (keysUsed rows) (h .slots) slot next (there h slot shape e inside) helds in
+            rw (unfilled-open slot s keys t, unfilled-open slot next (keysUsed rows) t) at is
 
         go : (b : Bool) → held row keys ≡ b → rows .used ≡ cond b (h .used) (h .used + 1)
             → heldBy slot (keysUsed rows) ≡ cond b 0 1 + heldBy slot keys
@@ -468,66 +467,53 @@ module _ (h : House) (slot : ℕ) (shape : Shaped h) (e : sound h ≡ true) (ins
         sound-by _ (rooms ses .0) (counted-kept (h .keys) (h .counts) (h .used) row kept room .rises)
         (rw (map-set-same (λ (s : Slot). s .taken) (h .slots) slot next noSlot refl)
         (counted-right (takenOf (h .slots)) (h .keys) (h .counts) (h .used) row kept room (told-right h e) row-right))
-        (slots-one keys counts (keysUsed rows) (countsUsed rows) 0 (h .slots) slot next sums (told-slots h e)
-        (rw (zero-add slot) (slot-right slot next (keysUsed rows) (countsUsed rows) t opened)))
+        (slots-one keys counts (keysUsed rows) (countsUsed rows) (h .slots) slot next (there h slot shape e inside) sums
+        (told-slots h e) (slot-right slot next (keysUsed rows) (countsUsed rows) t opened))
         (rooms ses .1)
 
   -- ---- any verdict
 
   -- a part result: granted, or refused for room with nothing changed
-  wanted-sound : (st : Standing) (rank key : ℕ) → session.sound (after (s .session) (Wanted st rank key)) ≡ true
-      → after (s .session) (Wanted st rank key) .standing .results ≡ s .session .standing .results + 1
-      → after (s .session) (Wanted st rank key) .standing .results ≤ mostResults
-      → KeyRight (Wanted st rank key)
+  wanted-sound : (change : Change) (key : ℕ) → session.sound (changed (s .session) change) ≡ true
+      → changed (s .session) change .standing .results ≡ s .session .standing .results + 1
+      → changed (s .session) change .standing .results ≤ mostResults
+      → KeyRight (Wanted change key)
       → (b : Bool) → granted (roomOf h slot) keys (rowKey slot key) ≡ b
-      → sound
-      (withOutcome h slot
-      (resultedIf (roomOf h slot) (h .keys) (h .counts) (h .used) (s .session .standing) (s .session .parts) st rank
-      key)
-      .house)
-      ≡ true
-  unfolding resultedIf rowTaken after
-  wanted-sound st rank key fine more few right true got =
-      rw got (result-sound key right got (after (s .session) (Wanted st rank key)) fine few more)
-  wanted-sound st rank key fine more few right false got = rw got (session-sound (s .session) (told .session) refl)
+      → sound (withOutcome h slot (resultedIf (roomOf h slot) (coreOf h slot) change key) .house) ≡ true
+  unfolding resultedIf rowTaken
+  wanted-sound change key fine more few right true got =
+      rw got (result-sound key right got (changed (s .session) change) fine few more)
+  wanted-sound change key fine more few right false got = rw got (session-sound (s .session) (told .session) refl)
 
   abbrev ses : Session
   ses = s .session
 
   settled-sound : (v : Verdict) → session.sound (after ses v) ≡ true
-      → after ses v .standing .results ≡ ses .standing .results + verdict.counted v
+      → after ses v .standing .results ≡ ses .standing .results + countedParts v
       → after ses v .standing .results ≤ mostResults → KeyRight v
-      → sound
-      (withOutcome h slot
-      (settled (roomOf h slot) (core (h .keys) (h .counts) (h .used) (ses .standing) (ses .parts)) v)
-      .house)
-      ≡ true
+      → sound (withOutcome h slot (settledTo h slot v) .house) ≡ true
   unfolding settled after
   settled-sound (Refused a) fine more few right = session-sound ses (told .session) refl
-  settled-sound (Taken st) fine more few right = session-sound (after ses (Taken st)) fine (omega (arith, more))
-  settled-sound (Opened st rank part) fine more few right =
-      session-sound (after ses (Opened st rank part)) fine (omega (arith, more))
-  settled-sound (Wanted st rank key) fine more few right =
-      wanted-sound st rank key fine more few right (granted (roomOf h slot) keys (rowKey slot key)) refl
+  settled-sound (Taken change) fine more few right = session-sound (changed ses change) fine (omega (arith, more))
+  settled-sound (Wanted change key) fine more few right =
+      wanted-sound change key fine more few right (granted (roomOf h slot) keys (rowKey slot key)) refl
 
 pub deliver-keeps : DeliverKeeps
 unfolding deliver delivered
 deliver-keeps h slot rec bytes shape e =
-    unless-keeps _ (sound h) _ e (λ fine.
-    unless-keeps _ (ltb slot slotCount) _ e (λ there.
-    unless-keeps _ (slotAt h slot .taken) _ e (λ t.
-    let inside = ltb-true slot slotCount there in
+    checked-by (refusal h) Sound (slotChecks h slot) _ (λ a. e) (λ all.
+    let ok = is-open h slot all in
     let ses = slotAt h slot .session in
-    let open-there = told h slot shape e inside t in
-    settled-sound h slot shape e inside t (verdictOn ses rec)
-    (judged-sound ses rec bytes (shape .parts slot inside) (open-there .session)) (judged-counts ses rec)
-    (judged-few ses rec (open-there .few)) (judged-key ses rec bytes))))
+    let now = told h slot shape e (ok .inside) (ok .opened) in
+    settled-sound h slot shape e (ok .inside) (ok .opened) (verdictOn ses rec)
+    (judged-sound ses rec bytes (shape .parts slot (ok .inside)) (now .session)) (judged-counts ses rec)
+    (judged-few ses rec (now .few)) (judged-key ses rec bytes))
 
 -- ---- below its floor
 
 pub below-floor : BelowFloor
 unfolding deliver delivered settled resultedIf rowTaken granted
-below-floor h slot rec st rank key e inside t asks low =
+below-floor h slot rec change key e inside t asks low =
     go (held (rowKey slot key) (keysOf h)) refl
   where
     go : (b : Bool) → held (rowKey slot key) (keysOf h) ≡ b → deliver h slot rec .answer ≡ Done
@@ -563,26 +549,20 @@ shaped-by h ks cs n slot s shape long paired cells there =
 open-shaped : (h : House) (slot floor : ℕ) → Shaped h → Shaped (openSlot h slot floor .house)
 unfolding openSlot
 open-shaped h slot floor shape =
-    unless-by Shaped _ (sound h) _ shape (λ fine.
-    unless-by Shaped _ (ltb slot slotCount) _ shape (λ inside.
-    unless-by Shaped _ (leb floor rowCount) _ shape (λ low.
-    unless-by Shaped _ (not (slotAt h slot .taken)) _ shape (λ shut.
-    unless-by Shaped _ (leb floor (free h - promised h)) _ shape (λ room.
+    checked-by (refusal h) (λ (o : Answered). Shaped (o .house)) (openChecks h slot floor) _ (λ a. shape) (λ all.
     shaped-by h (h .keys) (h .counts) (h .used) slot (openedSlot floor) shape (shape .keys) (shape .counts) refl
-    (ltb-true slot slotCount inside))))))
+    (can-open h slot floor all .inside))
 
 close-shaped : (h : House) (slot : ℕ) → Shaped h → Shaped (closeSlot h slot .house)
 unfolding closeSlot
 close-shaped h slot shape =
-    unless-by Shaped _ (sound h) _ shape (λ fine.
-    unless-by Shaped _ (ltb slot slotCount) _ shape (λ there.
-    unless-by Shaped _ (slotAt h slot .taken) _ shape (λ t.
-    let inside = ltb-true slot slotCount there in
-    let kept = keys-kept h slot shape fine inside in
+    checked-by (refusal h) (λ (o : Answered). Shaped (o .house)) (slotChecks h slot) _ (λ a. shape) (λ all.
+    let ok = is-open h slot all in
+    let kept = keys-kept h slot shape (ok .fine) (ok .inside) in
     let rows = slotDropped (h .keys) (h .counts) (h .used) slot in
     let long = dropped-length (h .keys) (h .counts) (h .used) slot kept ∙ shape .keys in
     shaped-by h (rows .keys) (rows .counts) (rows .used) slot closedSlot shape long
-    (dropped-kept (h .keys) (h .counts) (h .used) slot kept .paired ∙ long) refl inside)))
+    (dropped-kept (h .keys) (h .counts) (h .used) slot kept .paired ∙ long) refl (ok .inside))
 
 module _ (h : House) (slot : ℕ) (shape : Shaped h) (e : sound h ≡ true) (inside : slot < slotCount)
     (t : slotAt h slot .taken ≡ true) where
@@ -596,47 +576,39 @@ module _ (h : House) (slot : ℕ) (shape : Shaped h) (e : sound h ≡ true) (ins
   abbrev current : Session
   current = slotAt h slot .session
 
-  wanted-shaped : (st : Standing) (rank key : ℕ) → length (after current (Wanted st rank key) .parts) ≡ mostOpen
-      → KeyRight (Wanted st rank key) → (b : Bool) → granted (roomOf h slot) (keysOf h) (rowKey slot key) ≡ b
-      → Shaped
-      (withOutcome h slot
-      (resultedIf (roomOf h slot) (h .keys) (h .counts) (h .used) (current .standing) (current .parts) st rank key)
-      .house)
-  unfolding resultedIf rowTaken after
-  wanted-shaped st rank key cells right true got =
+  wanted-shaped : (change : Change) (key : ℕ) → length (changed current change .parts) ≡ mostOpen
+      → KeyRight (Wanted change key) → (b : Bool) → granted (roomOf h slot) (keysOf h) (rowKey slot key) ≡ b
+      → Shaped (withOutcome h slot (resultedIf (roomOf h slot) (coreOf h slot) change key) .house)
+  unfolding resultedIf rowTaken
+  wanted-shaped change key cells right true got =
       let rows = counted (h .keys) (h .counts) (h .used) (rowKey slot key) in
       let kept = keys-kept h slot shape e inside in
       let room = room h slot shape e inside t key right got in
       let long = counted-length (h .keys) (h .counts) (h .used) (rowKey slot key) kept room ∙ shape .keys in
       rw got
       (shaped-by h (rows .keys) (rows .counts) (rows .used) slot
-      (withSession (slotAt h slot) (after current (Wanted st rank key))) shape long
+      (withSession (slotAt h slot) (changed current change)) shape long
       (counted-kept (h .keys) (h .counts) (h .used) (rowKey slot key) kept room .paired ∙ long) cells inside)
-  wanted-shaped st rank key cells right false got = rw got (session-shaped current (shape .parts slot inside))
+  wanted-shaped change key cells right false got = rw got (session-shaped current (shape .parts slot inside))
 
   settled-shaped : (v : Verdict) → length (after current v .parts) ≡ mostOpen → KeyRight v
-      → Shaped
-      (withOutcome h slot
-      (settled (roomOf h slot) (core (h .keys) (h .counts) (h .used) (current .standing) (current .parts)) v)
-      .house)
+      → Shaped (withOutcome h slot (settledTo h slot v) .house)
   unfolding settled after
   settled-shaped (Refused a) cells right = session-shaped current cells
-  settled-shaped (Taken st) cells right = session-shaped (after current (Taken st)) cells
-  settled-shaped (Opened st rank part) cells right = session-shaped (after current (Opened st rank part)) cells
-  settled-shaped (Wanted st rank key) cells right =
-      wanted-shaped st rank key cells right (granted (roomOf h slot) (keysOf h) (rowKey slot key)) refl
+  settled-shaped (Taken change) cells right = session-shaped (changed current change) cells
+  settled-shaped (Wanted change key) cells right =
+      wanted-shaped change key cells right (granted (roomOf h slot) (keysOf h) (rowKey slot key)) refl
 
 deliver-shaped : (h : House) (slot : ℕ) (rec : List ℕ) → Bytes rec → Shaped h → Shaped (deliver h slot rec .house)
 unfolding deliver delivered
 deliver-shaped h slot rec bytes shape =
-    unless-by Shaped _ (sound h) _ shape (λ fine.
-    unless-by Shaped _ (ltb slot slotCount) _ shape (λ there.
-    unless-by Shaped _ (slotAt h slot .taken) _ shape (λ t.
-    let inside = ltb-true slot slotCount there in
+    checked-by (refusal h) (λ (o : Answered). Shaped (o .house)) (slotChecks h slot) _ (λ a. shape) (λ all.
+    let ok = is-open h slot all in
     let ses = slotAt h slot .session in
-    settled-shaped h slot shape fine inside t (verdictOn ses rec)
-    (judged-long ses rec (shape .parts slot inside) (told h slot shape fine inside t .session))
-    (judged-key ses rec bytes))))
+    settled-shaped h slot shape (ok .fine) (ok .inside) (ok .opened) (verdictOn ses rec)
+    (judged-long ses rec (shape .parts slot (ok .inside))
+    (told h slot shape (ok .fine) (ok .inside) (ok .opened) .session))
+    (judged-key ses rec bytes))
 
 -- ---- any sequence of calls
 

@@ -16,17 +16,19 @@ use Rattle.rows.specs.Rows.{slotOf, rowKey, heldBy, Kept, Rows, counted, keysUs
 use Rattle.rows.proofs.Changes.{counted-length, counted-used, counted-kept, counted-held-by, counted-more, counted-new}
 use Rattle.rows.proofs.Changes.{more-counts, new-counts}
 use Rattle.session.specs.declared.Session.{Session}
-use Rattle.session.specs.declared.Standing.{Standing}
+use Rattle.session.specs.declared.Change.{Change}
 use Rattle.session.specs.declared.Verdict.{Verdict}
-use Rattle.session.specs.declared.Verdict.the-variants.{Refused, Taken, Opened, Wanted}
-use Rattle.session.specs.Laws.{KeyRight}
-use Rattle.session.specs.After.{after, verdictOn}
+use Rattle.session.specs.declared.Verdict.the-variants.{Refused, Taken, Wanted}
+use Rattle.settling.specs.Settling.{changed, after}
+use Rattle.judging.specs.Judge.{verdictOn}
+use Rattle.judging.specs.Laws.{KeyRight}
 use Rattle.session.specs.Session as session
 use Rattle.session.specs.Session.{mostOpen}
-use Rattle.session.proofs.Judgement.{sound-kept, judged-sound, judged-key, judged-long}
+use Rattle.session.proofs.Laws.{sound-lent}
+use Rattle.judging.proofs.Laws.{judged-sound, judged-key, judged-long}
 use Rattle.house.specs.declared.Room.{Room}
 use Rattle.house.specs.House.{rowCount}
-use Rattle.house.specs.Deliver.{Core, core, granted, rowTaken, resultedIf, settled, delivered}
+use Rattle.house.specs.Deliver.{Core, core, sessionOf, granted, rowTaken, resultedIf, settled, delivered}
 use Rattle.house.specs.Deliver.{pastCounts, LentRows}
 use Rattle.house.specs.Laws.{Lending, LendingCore, LendingKept}
 use Rattle.house.proofs.Laws.{lent-kept}
@@ -36,7 +38,7 @@ pub lending-core : LendingCore
 lending-core room c most l =
     record {
       rows = l .rows;
-      kept = sound-kept (record { standing = c .standing; parts = c .parts }) (l .cells) (l .session);
+      kept = sound-lent (sessionOf c) (l .cells) (l .session);
       cells = l .cells;
     }
 
@@ -151,9 +153,6 @@ module _ (room : Room) (keys counts : List ℕ) (used key : ℕ) (l : LentRows r
 -- ---- any verdict
 
 module _ (room : Room) (c : Core) (most : ℕ) (some : 1 ≤ most) (few : most < pastCounts) (l : Lending room c most) where
-  abbrev ses : Session
-  ses = record { standing = c .standing; parts = c .parts }
-
   abbrev used-counts : List ℕ
   used-counts = take (c .used) (c .counts)
 
@@ -168,13 +167,12 @@ module _ (room : Room) (c : Core) (most : ℕ) (some : 1 ≤ most) (few : most <
         below = below-weaker most (most + 1) used-counts (omega arith) (l .below);
       }
 
-  wanted-kept : (st : Standing) (at key : ℕ) → session.sound (after ses (Wanted st at key)) ≡ true
-      → length (after ses (Wanted st at key) .parts) ≡ mostOpen → KeyRight (Wanted st at key)
+  wanted-kept : (change : Change) (key : ℕ) → session.sound (changed (sessionOf c) change) ≡ true
+      → length (changed (sessionOf c) change .parts) ≡ mostOpen → KeyRight (Wanted change key)
       → (b : Bool) → granted room (take (c .used) (c .keys)) (rowKey (room .slot) key) ≡ b
-      → Lending room
-      (resultedIf room (c .keys) (c .counts) (c .used) (c .standing) (c .parts) st at key .core) (most + 1)
-  unfolding resultedIf rowTaken after
-  wanted-kept st at key fine long right true got =
+      → Lending room (resultedIf room c change key .core) (most + 1)
+  unfolding resultedIf rowTaken
+  wanted-kept change key fine long right true got =
       let own : slotOf (rowKey (room .slot) key) ≡ room .slot = omega (arith, right .0) in
       let row = rowKey (room .slot) key in
       rw got
@@ -186,20 +184,20 @@ module _ (room : Room) (c : Core) (most : ℕ) (some : 1 ≤ most) (few : most <
             below-by room (c .keys) (c .counts) (c .used) row (l .rows) own got most (l .below) some
             (held row (take (c .used) (c .keys))) refl;
       })
-  wanted-kept st at key fine long right false got = rw got (rows-same ses (l .session) (l .cells))
+  wanted-kept change key fine long right false got = rw got (rows-same (sessionOf c) (l .session) (l .cells))
 
-  settled-kept : (v : Verdict) → session.sound (after ses v) ≡ true → length (after ses v .parts) ≡ mostOpen → KeyRight v
+  settled-kept : (v : Verdict) → session.sound (after (sessionOf c) v) ≡ true
+      → length (after (sessionOf c) v .parts) ≡ mostOpen → KeyRight v
       → Lending room (settled room c v .core) (most + 1)
   unfolding settled after
-  settled-kept (Refused a) fine long right = rows-same ses (l .session) (l .cells)
-  settled-kept (Taken st) fine long right = rows-same (after ses (Taken st)) fine long
-  settled-kept (Opened st at part) fine long right = rows-same (after ses (Opened st at part)) fine long
-  settled-kept (Wanted st at key) fine long right =
-      wanted-kept st at key fine long right (granted room (take (c .used) (c .keys)) (rowKey (room .slot) key)) refl
+  settled-kept (Refused a) fine long right = rows-same (sessionOf c) fine long
+  settled-kept (Taken change) fine long right = rows-same (changed (sessionOf c) change) fine long
+  settled-kept (Wanted change key) fine long right =
+      wanted-kept change key fine long right (granted room (take (c .used) (c .keys)) (rowKey (room .slot) key)) refl
 
 pub lending-kept : LendingKept
 unfolding delivered
 lending-kept room c most rec bytes some few l =
-    let s = ses room c most some few l in
+    let s = sessionOf c in
     settled-kept room c most some few l (verdictOn s rec) (judged-sound s rec bytes (l .cells) (l .session))
     (judged-long s rec (l .cells) (l .session)) (judged-key s rec bytes)

@@ -2,40 +2,38 @@
 -- first check that fails, and a record is accepted exactly if none does.
 -- Assumes nothing.
 use mathlib.Core.Path.{_≡_, refl, ap, sym, _∙_}
-use mathlib.Core.Bool.{Bool, true, false, not, _&&_, false≢true}
+use mathlib.Core.Bool.{Bool, true, false, _&&_, false≢true}
 use mathlib.Core.List.{List, [], _∷_, _++_, append-assoc}
-use Prim.Native.Nat.{ℕ, zero, suc, _-_, _≤_, _<_}
+use Prim.Native.Nat.{ℕ, zero, suc, _≤_, _<_}
 use native.Mathlib.Omega.{arith}
-use lib.Dec.{leb, ltb, eqb}
+use lib.Dec.{ltb, eqb}
 use lib.ListN.{length, drop, set, length-append}
-use lib.Seq.{set-getD}
-use Rattle.prelude.specs.Choice.{_unless_then_}
 use Rattle.prelude.specs.Checks.{_else_, numberBy}
-use Rattle.prelude.proofs.Checks.{check-first}
+use Rattle.prelude.proofs.Checks.{checked-by, checked-number}
 use Rattle.answers.specs.declared.Answer.{Answer}
 use Rattle.answers.specs.declared.Answer.the-variants as answer
 use Rattle.answers.specs.declared.Answer.the-variants.{Done}
 use Rattle.answers.specs.Numbers.{numberOf}
 use Rattle.rows.specs.Rows.{slotCount, rowKey, heldBy}
 use Rattle.session.specs.declared.Verdict.{Verdict}
-use Rattle.session.specs.declared.Verdict.the-variants.{Refused, Taken, Opened, Wanted}
-use Rattle.session.specs.Session.{partsOf}
-use Rattle.session.specs.After.{verdictOn}
-use Rattle.session.specs.Results.{ofRecord, verdictNumber}
-use Rattle.session.proofs.Judgement.{judged-refusal}
+use Rattle.session.specs.declared.Verdict.the-variants.{Refused, Taken, Wanted}
+use Rattle.session.specs.Verdicts.{verdictNumber, byItself}
+use Rattle.judging.specs.Judge.{verdictOn}
+use Rattle.judging.proofs.Laws.{judged-refusal}
 use Rattle.house.specs.declared.House.{House}
-use Rattle.house.specs.declared.Slot.{Slot}
 use Rattle.house.specs.declared.Row.{Row}
 use Rattle.house.specs.declared.Reported.{Reported}
 use Rattle.house.specs.declared.Figures.{Figures}
 use Rattle.house.specs.declared.Answered.{Answered}
-use Rattle.house.specs.House.{rowCount, noSlot, keysOf, free, promised, sound}
-use Rattle.house.specs.Deliver.{core, granted, rowTaken, resultedIf, settled, delivered}
-use Rattle.house.specs.Calls.{slotAt, withSlot, openSlot, closeSlot, roomOf, withOutcome, deliver, figuresOf}
-use Rattle.house.specs.Report.{rowAt, reported, listed, filled}
+use Rattle.house.specs.House.{keysOf, free, promised, sound}
+use Rattle.house.specs.Deliver.{granted, rowTaken, resultedIf, settled, delivered}
+use Rattle.house.specs.Calls.{slotAt, openSlot, closeSlot, roomOf, coreOf, settledTo, withOutcome, deliver}
+use Rattle.house.specs.Calls.{refusal, openChecks, slotChecks, noFigures, figuresOf}
+use Rattle.house.specs.Report.{rowAt, unreported, reportChecks, reported, listed, filled}
 use Rattle.house.specs.History.{Open, Deliver, Report, Close, Figured}
 use Rattle.house.specs.Demands.{RefusedKeeps, RefusedWrites, ReportWrites, roomFor, Accepted}
 use Rattle.house.specs.Demands.{OpenNumber, DeliverNumber, ReportNumber, CloseNumber, FiguresNumber}
+use Rattle.house.proofs.Calling.{same-slot}
 use Rattle.house.proofs.Reporting.{few}
 
 -- ---- a refusal changes nothing
@@ -44,70 +42,36 @@ use Rattle.house.proofs.Reporting.{few}
 abbrev Keeps : House → Answered → Type 0
 Keeps h o = (o .answer ≡ Done → ⊥) → o .house ≡ h
 
-chosen : (P : Answered → Type 0) (a : Answered) (t : Bool) (b : Answered) → P a → P b → P (a unless t then b)
-chosen P a true b x y = y
-chosen P a false b x y = x
-
--- a slot that is laid back as it was
-laid-back : (h : House) (slot : ℕ) → withSlot h slot (slotAt h slot) ≡ h
-laid-back h slot =
-    ap (λ (slots : List Slot). record { keys = h .keys; counts = h .counts; used = h .used; slots = slots })
-    (set-getD (h .slots) slot noSlot)
-
-settled-keeps : (h : House) (slot : ℕ) (v : Verdict)
-    → Keeps h
-    (withOutcome h slot
-    (settled (roomOf h slot)
-    (core (h .keys) (h .counts) (h .used) (slotAt h slot .session .standing) (slotAt h slot .session .parts)) v))
+settled-keeps : (h : House) (slot : ℕ) (v : Verdict) → Keeps h (withOutcome h slot (settledTo h slot v))
 unfolding settled resultedIf rowTaken
-settled-keeps h slot (Refused a) refused = laid-back h slot
-settled-keeps h slot (Taken next) refused = absurd (refused refl)
-settled-keeps h slot (Opened next rank part) refused = absurd (refused refl)
-settled-keeps h slot (Wanted next rank key) refused =
+settled-keeps h slot (Refused a) refused = same-slot h slot
+settled-keeps h slot (Taken change) refused = absurd (refused refl)
+settled-keeps h slot (Wanted change key) refused =
     go (granted (roomOf h slot) (keysOf h) (rowKey slot key)) refl refused
   where
     go : (b : Bool) → granted (roomOf h slot) (keysOf h) (rowKey slot key) ≡ b
-        → Keeps h
-        (withOutcome h slot
-        (resultedIf (roomOf h slot) (h .keys) (h .counts) (h .used) (slotAt h slot .session .standing)
-        (slotAt h slot .session .parts) next rank key))
+        → Keeps h (withOutcome h slot (resultedIf (roomOf h slot) (coreOf h slot) change key))
     go true got = rw got (λ refused. absurd (refused refl))
-    go false got = rw got (λ refused. laid-back h slot)
+    go false got = rw got (λ refused. same-slot h slot)
 
 pub refused-keeps : RefusedKeeps
 unfolding openSlot deliver delivered closeSlot
 refused-keeps h (Open slot floor) =
-    chosen (Keeps h) _ (sound h) _ (λ r. refl)
-    (chosen (Keeps h) _ (ltb slot slotCount) _ (λ r. refl)
-    (chosen (Keeps h) _ (leb floor rowCount) _ (λ r. refl)
-    (chosen (Keeps h) _ (not (slotAt h slot .taken)) _ (λ r. refl)
-    (chosen (Keeps h) _ (leb floor (free h - promised h)) _ (λ r. refl) (λ refused. absurd (refused refl))))))
+    checked-by (refusal h) (Keeps h) (openChecks h slot floor) _ (λ a r. refl) (λ e refused. absurd (refused refl))
 refused-keeps h (Deliver slot rec) =
-    chosen (Keeps h) _ (sound h) _ (λ r. refl)
-    (chosen (Keeps h) _ (ltb slot slotCount) _ (λ r. refl)
-    (chosen (Keeps h) _ (slotAt h slot .taken) _ (λ r. refl)
-    (settled-keeps h slot (verdictOn (slotAt h slot .session) rec))))
+    checked-by (refusal h) (Keeps h) (slotChecks h slot) _ (λ a r. refl)
+    (λ e. settled-keeps h slot (verdictOn (slotAt h slot .session) rec))
 refused-keeps h (Report slot long) = λ refused. refl
 refused-keeps h (Close slot) =
-    chosen (Keeps h) _ (sound h) _ (λ r. refl)
-    (chosen (Keeps h) _ (ltb slot slotCount) _ (λ r. refl)
-    (chosen (Keeps h) _ (slotAt h slot .taken) _ (λ r. refl) (λ refused. absurd (refused refl))))
+    checked-by (refusal h) (Keeps h) (slotChecks h slot) _ (λ a r. refl) (λ e refused. absurd (refused refl))
 refused-keeps h Figured = λ refused. refl
 
 -- a report that is refused has no rows
 reported-none : (h : House) (slot long : ℕ) → (reported h slot long .answer ≡ Done → ⊥) → reported h slot long .rows ≡ 0
 unfolding reported
 reported-none h slot long =
-    pick _ (sound h) _ (λ r. refl)
-    (pick _ (ltb slot slotCount) _ (λ r. refl)
-    (pick _ (slotAt h slot .taken) _ (λ r. refl)
-    (pick _ (leb (heldBy slot (keysOf h)) long) _ (λ r. refl) (λ refused. absurd (refused refl)))))
-  where
-    pick : (a : Reported) (t : Bool) (b : Reported) → ((a .answer ≡ Done → ⊥) → a .rows ≡ 0)
-        → ((b .answer ≡ Done → ⊥) → b .rows ≡ 0)
-        → ((a unless t then b) .answer ≡ Done → ⊥) → (a unless t then b) .rows ≡ 0
-    pick a true b x y = y
-    pick a false b x y = x
+    checked-by unreported (λ (r : Reported). (r .answer ≡ Done → ⊥) → r .rows ≡ 0) (reportChecks h slot long)
+    (record { answer = Done; rows = heldBy slot (keysOf h) }) (λ a r. refl) (λ e refused. absurd (refused refl))
 
 pub refused-writes : RefusedWrites
 refused-writes h slot out refused = rw (reported-none h slot (length out) refused)
@@ -150,14 +114,10 @@ number o = numberOf (o .answer)
 pub open-number : OpenNumber
 unfolding openSlot
 open-number h slot floor =
-    check-first number _ (sound h) _ 15 _ refl (λ fine.
-    check-first number _ (ltb slot slotCount) _ 1 _ refl (λ inside.
-    check-first number _ (leb floor rowCount) _ 16 _ refl (λ low.
-    check-first number _ (not (slotAt h slot .taken)) _ 2 _ refl (λ shut.
-    check-first number _ (leb floor (free h - promised h)) _ 13 0 refl (λ wide. refl)))))
+    checked-number (refusal h) numberOf number (λ a. refl) (openChecks h slot floor) [] _ (λ e. refl)
 
 -- a record by itself is never refused with 0
-pub own-number : (a : Answer) → ofRecord a ≡ true → eqb (numberOf a) 0 ≡ false
+pub own-number : (a : Answer) → byItself a ≡ true → eqb (numberOf a) 0 ≡ false
 own-number answer.Done is = absurd (false≢true is)
 own-number answer.NoSuchSlot is = refl
 own-number answer.SlotTaken is = refl
@@ -181,23 +141,16 @@ own-number answer.NotACountLine is = refl
 own-number answer.NameNotText is = refl
 
 -- a verdict's own number, then 13
-settled-number : (h : House) (slot : ℕ) (v : Verdict) → ((a : Answer) → v ≡ Refused a → ofRecord a ≡ true)
-    → number
-    (withOutcome h slot
-    (settled (roomOf h slot)
-    (core (h .keys) (h .counts) (h .used) (slotAt h slot .session .standing) (slotAt h slot .session .parts)) v))
+settled-number : (h : House) (slot : ℕ) (v : Verdict) → ((a : Answer) → v ≡ Refused a → byItself a ≡ true)
+    → number (withOutcome h slot (settledTo h slot v))
     ≡ numberBy ((eqb (verdictNumber v) 0 else verdictNumber v) ∷ (roomFor h slot v else 13) ∷ [])
 unfolding settled resultedIf rowTaken
 settled-number h slot (Refused a) own = rw (own-number a (own a refl))
-settled-number h slot (Taken next) own = refl
-settled-number h slot (Opened next rank part) own = refl
-settled-number h slot (Wanted next rank key) own = go (granted (roomOf h slot) (keysOf h) (rowKey slot key)) refl
+settled-number h slot (Taken change) own = refl
+settled-number h slot (Wanted change key) own = go (granted (roomOf h slot) (keysOf h) (rowKey slot key)) refl
   where
     go : (b : Bool) → granted (roomOf h slot) (keysOf h) (rowKey slot key) ≡ b
-        → number
-        (withOutcome h slot
-        (resultedIf (roomOf h slot) (h .keys) (h .counts) (h .used) (slotAt h slot .session .standing)
-        (slotAt h slot .session .parts) next rank key))
+        → number (withOutcome h slot (resultedIf (roomOf h slot) (coreOf h slot) change key))
         ≡ numberBy ((granted (roomOf h slot) (keysOf h) (rowKey slot key) else 13) ∷ [])
     go true got = rw got
     go false got = rw got
@@ -206,32 +159,27 @@ pub deliver-number : DeliverNumber
 unfolding deliver delivered
 deliver-number h slot rec =
     let s = slotAt h slot .session in
-    check-first number _ (sound h) _ 15 _ refl (λ fine.
-    check-first number _ (ltb slot slotCount) _ 1 _ refl (λ inside.
-    check-first number _ (slotAt h slot .taken) _ 2 _ refl (λ t.
-    settled-number h slot (verdictOn s rec) (λ a is. judged-refusal (s .standing) (partsOf s) rec a is))))
+    let v = verdictOn s rec in
+    checked-number (refusal h) numberOf number (λ a. refl) (slotChecks h slot)
+    ((eqb (verdictNumber v) 0 else verdictNumber v) ∷ (roomFor h slot v else 13) ∷ []) _
+    (λ e. settled-number h slot v (λ a is. judged-refusal s rec a is))
 
 pub report-number : ReportNumber
 unfolding reported
 report-number h slot long =
-    check-first given _ (sound h) _ 15 _ refl (λ fine.
-    check-first given _ (ltb slot slotCount) _ 1 _ refl (λ inside.
-    check-first given _ (slotAt h slot .taken) _ 2 _ refl (λ t.
-    check-first given _ (leb (heldBy slot (keysOf h)) long) _ 17 0 refl (λ wide. refl))))
-  where
-    given : Reported → ℕ
-    given r = numberOf (r .answer)
+    checked-number unreported numberOf (λ (r : Reported). numberOf (r .answer)) (λ a. refl)
+    (reportChecks h slot long) [] (record { answer = Done; rows = heldBy slot (keysOf h) }) (λ e. refl)
 
 pub close-number : CloseNumber
 unfolding closeSlot
-close-number h slot =
-    check-first number _ (sound h) _ 15 _ refl (λ fine.
-    check-first number _ (ltb slot slotCount) _ 1 _ refl (λ inside.
-    check-first number _ (slotAt h slot .taken) _ 2 0 refl (λ t. refl)))
+close-number h slot = checked-number (refusal h) numberOf number (λ a. refl) (slotChecks h slot) [] _ (λ e. refl)
 
 pub figures-number : FiguresNumber
 unfolding figuresOf
-figures-number h = check-first (λ (f : Figures). numberOf (f .answer)) _ (sound h) _ 15 0 refl (λ fine. refl)
+figures-number h =
+    checked-number noFigures numberOf (λ (f : Figures). numberOf (f .answer)) (λ a. refl)
+    ((sound h else answer.NotSound) ∷ []) []
+    (record { answer = Done; free = free h; promised = promised h }) (λ e. refl)
 
 -- ---- what is accepted
 

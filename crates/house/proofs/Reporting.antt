@@ -2,17 +2,19 @@
 -- and what a report's rows are in a sound house.
 -- Assumes nothing.
 use mathlib.Core.Path.{_≡_, refl, ap, sym, _∙_}
-use mathlib.Core.Bool.{Bool, true, false, cond, _&&_, false≢true}
-use mathlib.Core.List.{List, [], _∷_, _++_}
+use mathlib.Core.Bool.{Bool, true, false, cond, false≢true}
+use mathlib.Core.List.{List, [], _∷_}
 use Prim.Native.Nat.{ℕ, zero, suc, _+_, _≤_, _<_, min}
-use native.Mathlib.Nat.{zero-add}
 use native.Mathlib.Omega.{arith}
 use borrow.Author.Tests.{le-leb, lt-leb, leb-true, lt-ltb, le-ltb, ltb-true, ltb-false}
-use lib.Dec.{leb, ltb}
+use lib.Dec.{ltb}
 use lib.ListN.{length, getD, set, length-set, length-take}
-use lib.Seq.{getD-take, getD-set-same, getD-set-other, length-take-le, set-append-left}
-use Rattle.prelude.specs.Choice.{_unless_then_}
-use Rattle.prelude.proofs.Both.{both-left, both-right}
+use lib.Seq.{getD-take, getD-set-same, getD-set-other, length-take-le}
+use Rattle.prelude.specs.All.{all}
+use Rattle.prelude.specs.Checks.{tests}
+use Rattle.prelude.proofs.All.{all-at}
+use Rattle.prelude.proofs.Both.{both-left}
+use Rattle.prelude.proofs.Checks.{checked-by}
 use Rattle.answers.specs.declared.Answer.the-variants.{Done, NoSuchSlot, SlotClosed, NotSound, OutputTooShort}
 use Rattle.rising.specs.Rising.{rising}
 use Rattle.rows.specs.Rows.{slotCount, slotOf, heldBy, sumBy, rowsRight, slotRank}
@@ -22,11 +24,11 @@ use Rattle.house.specs.declared.House.{House}
 use Rattle.house.specs.declared.Row.{Row}
 use Rattle.house.specs.declared.Reported.{Reported}
 use Rattle.house.specs.House.{rowCount, noSlot, keysOf, countsOf, takenOf, rowsSound, sound}
-use Rattle.house.specs.Calls.{slotAt}
+use Rattle.house.specs.Calls.{slotAt, slotChecks}
 use Rattle.house.specs.Deliver.{pastCounts}
-use Rattle.house.specs.Report.{keyedRow, rowAt, rowsOf, rowsFrom, unreported, reported, filled}
+use Rattle.house.specs.Report.{keyedRow, rowAt, rowsOf, rowsFrom, unreported, reportChecks, reported, filled}
 use Rattle.house.specs.Report.{noRows, listing}
-use Rattle.house.proofs.Calling.{OpenSlot, open-told, slots-at, told-within, told-rows, told-slots}
+use Rattle.house.proofs.Calling.{OpenSlot, slot-told, told-within, told-rows, IsOpen, is-open}
 
 -- ---- the answers
 
@@ -71,35 +73,32 @@ open-within (s ∷ ss) (suc i) e = omega (arith, open-within ss i e)
 
 -- there is a row only of an open slot of a sound house
 module _ (h : House) (slot i : ℕ) (row : i < rowsOf h slot) where
-  told : (sound h && (ltb slot slotCount && slotAt h slot .taken)) ≡ true
+  holds : all (tests (slotChecks h slot)) ≡ true
   unfolding rowsOf
-  told = go (sound h && (ltb slot slotCount && slotAt h slot .taken)) refl
+  holds = go (all (tests (slotChecks h slot))) refl
     where
-      go : (t : Bool) → (sound h && (ltb slot slotCount && slotAt h slot .taken)) ≡ t
-          → (sound h && (ltb slot slotCount && slotAt h slot .taken)) ≡ true
+      go : (t : Bool) → all (tests (slotChecks h slot)) ≡ t → all (tests (slotChecks h slot)) ≡ true
       go true e = e
       go false e =
           let none : rowsOf h slot ≡ 0 = rw e in
           absurd (omega (arith, row, none))
 
+  told : IsOpen h slot
+  told = is-open h slot holds
+
   pub row-fine : sound h ≡ true
-  row-fine = both-left (sound h) (ltb slot slotCount && slotAt h slot .taken) told
+  row-fine = told .fine
 
   pub row-there : slot < slotCount
-  row-there =
-      ltb-true slot slotCount
-      (both-left (ltb slot slotCount) (slotAt h slot .taken)
-      (both-right (sound h) (ltb slot slotCount && slotAt h slot .taken) told))
+  row-there = told .inside
 
   pub row-open : slotAt h slot .taken ≡ true
-  row-open =
-      both-right (ltb slot slotCount) (slotAt h slot .taken)
-      (both-right (sound h) (ltb slot slotCount && slotAt h slot .taken) told)
+  row-open = told .opened
 
   pub row-held : i < heldBy slot (keysOf h)
   unfolding rowsOf
   row-held =
-      let held : rowsOf h slot ≡ heldBy slot (keysOf h) = rw told in
+      let held : rowsOf h slot ≡ heldBy slot (keysOf h) = rw holds in
       omega (arith, row, held)
 
   -- it stands among the rows in use
@@ -108,11 +107,7 @@ module _ (h : House) (slot i : ℕ) (row : i < rowsOf h slot) where
       omega (arith, row-held, held-ranks slot (keysOf h) (told-rises h row-fine), run-end slot (keysOf h))
 
   pub row-slot : OpenSlot slot (slotAt h slot) (keysOf h) (countsOf h)
-  row-slot =
-      open-told slot (slotAt h slot) (keysOf h) (countsOf h) row-open
-      (rw (zero-add slot) at
-      (slots-at 0 (h .slots) (keysOf h) (countsOf h) slot noSlot (told-slots h row-fine)
-      (open-within (h .slots) slot row-open)))
+  row-slot = slot-told h slot row-fine (open-within (h .slots) slot row-open) row-open
 
   module _ (long : length (h .keys) ≡ rowCount) where
     keys-long : length (keysOf h) ≡ h .used
@@ -170,63 +165,27 @@ module _ (h : House) (slot rows from i : ℕ) (held : rows ≤ rowsOf h slot) (l
 
 -- ---- how many rows are written: no more than there are, nor than the slice is long
 
--- by the tests in their order: a refusal writes nothing
-few-by : (fine there opened room : Bool) (n long : ℕ) → (room ≡ true → n ≤ long)
-    → let r : Reported =
-    unreported NotSound unless fine then
-    unreported NoSuchSlot unless there then
-    unreported SlotClosed unless opened then
-    unreported OutputTooShort unless room then
-    record { answer = Done; rows = n } in
-    (r .rows ≤ cond (fine && (there && opened)) n 0) × (r .rows ≤ long)
-few-by false there opened room n long fits = (omega arith, omega arith)
-few-by true false opened room n long fits = (omega arith, omega arith)
-few-by true true false room n long fits = (omega arith, omega arith)
-few-by true true true false n long fits = (omega arith, omega arith)
-few-by true true true true n long fits = (omega arith, fits refl)
-
 pub few : (h : House) (slot long : ℕ)
     → (reported h slot long .rows ≤ rowsOf h slot) × (reported h slot long .rows ≤ long)
 unfolding reported rowsOf
 few h slot long =
-    few-by (sound h) (ltb slot slotCount) (slotAt h slot .taken) (leb (heldBy slot (keysOf h)) long)
-    (heldBy slot (keysOf h)) long (leb-true (heldBy slot (keysOf h)) long)
+    let held = heldBy slot (keysOf h) in
+    checked-by unreported (λ (r : Reported). (r .rows ≤ rowsOf h slot) × (r .rows ≤ long)) (reportChecks h slot long)
+    (record { answer = Done; rows = held }) (λ a. (omega arith, omega arith)) (λ e.
+    let at = all-at (tests (reportChecks h slot long)) e in
+    let all : rowsOf h slot ≡ held = rw (at 0, at 1, at 2) in
+    (omega (arith, all), leb-true held long (at 3)))
 
 -- .. and a house has no more rows than 1,024
 pub rows-few : (h : House) (slot : ℕ) → rowsOf h slot ≤ rowCount
 unfolding rowsOf
-rows-few h slot = go (sound h) (ltb slot slotCount && slotAt h slot .taken) refl
+rows-few h slot = go (all (tests (slotChecks h slot))) refl
   where
-    go : (fine rest : Bool) → sound h ≡ fine → cond (fine && rest) (heldBy slot (keysOf h)) 0 ≤ rowCount
-    go false rest e = omega arith
-    go true false e = omega arith
-    go true true e =
-        let short : length (keysOf h) ≡ min (h .used) (length (h .keys)) = length-take (h .used) (h .keys) in
-        omega (arith, told-within h e, held-within slot (keysOf h), short)
-
--- .. so that a slice of 1,024 is as good as any longer one
-reported-capped : (h : House) (slot long : ℕ) → rowCount ≤ long → reported h slot rowCount ≡ reported h slot long
-unfolding reported
-reported-capped h slot long wide = go (sound h) refl
-  where
-    rest : Bool → Reported
-    rest room =
-        unreported NoSuchSlot unless ltb slot slotCount then
-        unreported SlotClosed unless slotAt h slot .taken then
-        unreported OutputTooShort unless room then
-        record { answer = Done; rows = heldBy slot (keysOf h) }
-
-    go : (fine : Bool) → sound h ≡ fine
-        → (unreported NotSound unless fine then rest (leb (heldBy slot (keysOf h)) rowCount))
-        ≡ (unreported NotSound unless fine then rest (leb (heldBy slot (keysOf h)) long))
-    go false e = refl
+    go : (t : Bool) → all (tests (slotChecks h slot)) ≡ t → cond t (heldBy slot (keysOf h)) 0 ≤ rowCount
+    go false e = omega arith
     go true e =
         let short : length (keysOf h) ≡ min (h .used) (length (h .keys)) = length-take (h .used) (h .keys) in
-        let low : heldBy slot (keysOf h) ≤ rowCount =
-        omega (arith, told-within h e, held-within slot (keysOf h), short) in
-        ap rest
-        (le-leb (heldBy slot (keysOf h)) rowCount low
-        ∙ sym (le-leb (heldBy slot (keysOf h)) long (omega (arith, low, wide))))
+        omega (arith, told-within h (is-open h slot e .fine), held-within slot (keysOf h), short)
 
 -- ---- a slice filled
 
@@ -249,21 +208,7 @@ filled-at row (suc n) old i d room low =
         let last : i ≡ n = omega (arith, ltb-false i n e, low) in
         rw last (getD-set-same (filled row n old) n (row n) d (omega (arith, room, length-filled row n old)))
 
--- .. it is filled as far as it is written, whatever stands behind
-pub filled-front : (row : ℕ → Row) (n : ℕ) (old rest : List Row) → n ≤ length old
-    → filled row n old ++ rest ≡ filled row n (old ++ rest)
-filled-front row zero old rest few = refl
-filled-front row (suc i) old rest few =
-    sym (set-append-left (filled row i old) rest i (row i) (omega (arith, length-filled row i old)))
-    ∙ ap (λ (l : List Row). set l i (row i)) (filled-front row i old rest (omega (arith, few)))
-
 -- ---- a report by value
-
-pub listing-capped : (h : House) (slot long : ℕ) → rowCount ≤ long → listing h slot rowCount ≡ listing h slot long
-unfolding listing
-listing-capped h slot long wide =
-    ap (λ (r : Reported). record { reported = r; rows = filled (rowAt h slot) (r .rows) noRows })
-    (reported-capped h slot long wide)
 
 module _ (h : House) (slot long : ℕ) where
   pub listing-reported : listing h slot long .reported ≡ reported h slot long

@@ -4,32 +4,32 @@
 use mathlib.Core.Path.{_≡_, refl, ap, sym, _∙_}
 use mathlib.Core.Bool.{Bool, true, false, not, false≢true}
 use mathlib.Core.List.{List}
-use Prim.Native.Nat.{ℕ, _-_, _<_}
+use Prim.Native.Nat.{ℕ, _<_}
 use native.Mathlib.Omega.{arith}
-use lib.Dec.{leb, ltb}
-use lib.ListN.{length, getD, List·getD-map}
+use lib.Dec.{eqb}
+use lib.ListN.{length, getD, drop, List·getD-map}
 use lib.Seq.{getD-take}
-use Rattle.prelude.specs.Choice.{_unless_then_}
+use Rattle.prelude.proofs.Checks.{checked-where}
 use Rattle.answers.specs.declared.Answer.{Answer}
-use Rattle.answers.specs.declared.Answer.the-variants.{NotSound}
+use Rattle.answers.specs.declared.Answer.the-variants.{Done, NotSound}
 use Rattle.answers.specs.Numbers.{numberOf}
 use Rattle.rising.proofs.Laws.{rising-apart}
-use Rattle.rows.specs.Rows.{slotCount, slotOf, rowKey, heldBy}
+use Rattle.rows.specs.Rows.{slotOf, rowKey, heldBy}
 use Rattle.rows.proofs.Laws.{row-taken, right-at}
 use Rattle.session.specs.declared.Verdict.{Verdict}
-use Rattle.session.specs.declared.Verdict.the-variants.{Refused, Taken, Opened, Wanted}
-use Rattle.session.specs.Session.{partsOf}
-use Rattle.session.specs.After.{verdictOn}
-use Rattle.session.specs.Results.{ofRecord}
-use Rattle.session.proofs.Judgement.{judged-refusal}
+use Rattle.session.specs.declared.Verdict.the-variants.{Refused, Taken, Wanted}
+use Rattle.session.specs.Verdicts.{byItself}
+use Rattle.judging.specs.Judge.{verdictOn}
+use Rattle.judging.proofs.Laws.{judged-refusal}
 use Rattle.house.specs.declared.Slot.{Slot}
 use Rattle.house.specs.declared.House.{House}
 use Rattle.house.specs.declared.Answered.{Answered}
 use Rattle.house.specs.declared.Reported.{Reported}
-use Rattle.house.specs.House.{rowCount, noSlot, fresh, keysOf, countsOf, free, promised, takenOf, sound}
-use Rattle.house.specs.Deliver.{core, granted, rowTaken, resultedIf, settled, delivered}
-use Rattle.house.specs.Calls.{slotAt, openSlot, closeSlot, deliver, roomOf, withOutcome, figuresOf}
-use Rattle.house.specs.Report.{reported}
+use Rattle.house.specs.House.{noSlot, fresh, keysOf, countsOf, takenOf, sound}
+use Rattle.house.specs.Deliver.{granted, rowTaken, resultedIf, settled, delivered}
+use Rattle.house.specs.Calls.{slotAt, openSlot, closeSlot, deliver, roomOf, coreOf, settledTo, withOutcome}
+use Rattle.house.specs.Calls.{refusal, openChecks, slotChecks, figuresOf}
+use Rattle.house.specs.Report.{unreported, reportChecks, reported}
 use Rattle.house.specs.History.{Call, Open, Deliver, Report, Close, Figured, reply, answerOf, reached, AllSent}
 use Rattle.house.specs.Demands.{NeverUnsound, RowsHeld, KeysDiffer}
 use Rattle.house.proofs.Reporting.{told-rises}
@@ -41,65 +41,51 @@ use Rattle.house.proofs.Counting.{reached-shaped, keys-long}
 abbrev Other : Answer → Type 0
 Other a = a ≡ NotSound → ⊥
 
--- a choice after the test of soundness, of which neither side is 15
-neither : {A : Type 0} (given : A → Answer) (a : A) (t : Bool) (b : A) → Other (given a) → Other (given b)
-    → Other (given (a unless t then b))
-neither given a true b x y = y
-neither given a false b x y = x
+-- an answer with another number than 15 is another
+otherwise : Answer → Bool
+otherwise a = not (eqb (numberOf a) 15)
+
+other : (a : Answer) → otherwise a ≡ true → Other a
+unfolding otherwise
+other a e is = false≢true (rw (ap numberOf is) at e)
 
 abbrev given : Answered → Answer
 given o = o .answer
 
-settled-other : (h : House) (slot : ℕ) (v : Verdict) → ((a : Answer) → v ≡ Refused a → ofRecord a ≡ true)
-    → Other
-    (given
-    (withOutcome h slot
-    (settled (roomOf h slot)
-    (core (h .keys) (h .counts) (h .used) (slotAt h slot .session .standing) (slotAt h slot .session .parts)) v)))
+settled-other : (h : House) (slot : ℕ) (v : Verdict) → ((a : Answer) → v ≡ Refused a → byItself a ≡ true)
+    → Other (given (withOutcome h slot (settledTo h slot v)))
 unfolding settled resultedIf rowTaken
-settled-other h slot (Refused a) own is = false≢true (sym (ap ofRecord is) ∙ own a refl)
-settled-other h slot (Taken next) own is = omega (arith, ap numberOf is)
-settled-other h slot (Opened next rank part) own is = omega (arith, ap numberOf is)
-settled-other h slot (Wanted next rank key) own is =
+settled-other h slot (Refused a) own is = false≢true (sym (ap byItself is) ∙ own a refl)
+settled-other h slot (Taken change) own is = omega (arith, ap numberOf is)
+settled-other h slot (Wanted change key) own is =
     go (granted (roomOf h slot) (keysOf h) (rowKey slot key)) refl is
   where
     go : (b : Bool) → granted (roomOf h slot) (keysOf h) (rowKey slot key) ≡ b
-        → Other
-        (given
-        (withOutcome h slot
-        (resultedIf (roomOf h slot) (h .keys) (h .counts) (h .used) (slotAt h slot .session .standing)
-        (slotAt h slot .session .parts) next rank key)))
+        → Other (given (withOutcome h slot (resultedIf (roomOf h slot) (coreOf h slot) change key)))
     go true got = rw got (λ q. omega (arith, ap numberOf q))
     go false got = rw got (λ q. omega (arith, ap numberOf q))
 
 module _ (h : House) (e : sound h ≡ true) where
   sound-other : (c : Call) → Other (answerOf (reply h c))
-  unfolding openSlot deliver delivered reported closeSlot figuresOf
+  unfolding openSlot deliver delivered reported closeSlot figuresOf otherwise
   sound-other (Open slot floor) =
       rw e
-      (neither given _ (ltb slot slotCount) _ (λ q. omega (arith, ap numberOf q))
-      (neither given _ (leb floor rowCount) _ (λ q. omega (arith, ap numberOf q))
-      (neither given _ (not (slotAt h slot .taken)) _ (λ q. omega (arith, ap numberOf q))
-      (neither given _ (leb floor (free h - promised h)) _ (λ q. omega (arith, ap numberOf q))
-      (λ q. omega (arith, ap numberOf q))))))
+      (checked-where (refusal h) (λ (o : Answered). Other (o .answer)) otherwise (drop 1 (openChecks h slot floor)) _
+      refl other (λ ok. other Done refl))
   sound-other (Deliver slot rec) =
       let s = slotAt h slot .session in
       rw e
-      (neither given _ (ltb slot slotCount) _ (λ q. omega (arith, ap numberOf q))
-      (neither given _ (slotAt h slot .taken) _ (λ q. omega (arith, ap numberOf q))
-      (settled-other h slot (verdictOn s rec) (λ a is. judged-refusal (s .standing) (partsOf s) rec a is))))
+      (checked-where (refusal h) (λ (o : Answered). Other (o .answer)) otherwise (drop 1 (slotChecks h slot)) _ refl
+      other (λ ok. settled-other h slot (verdictOn s rec) (λ a is. judged-refusal s rec a is)))
   sound-other (Report slot long) =
       rw e
-      (neither (λ (r : Reported). r .answer) _ (ltb slot slotCount) _ (λ q. omega (arith, ap numberOf q))
-      (neither (λ (r : Reported). r .answer) _ (slotAt h slot .taken) _ (λ q. omega (arith, ap numberOf q))
-      (neither (λ (r : Reported). r .answer) _ (leb (heldBy slot (keysOf h)) long) _
-      (λ q. omega (arith, ap numberOf q)) (λ q. omega (arith, ap numberOf q)))))
+      (checked-where unreported (λ (r : Reported). Other (r .answer)) otherwise (drop 1 (reportChecks h slot long))
+      (record { answer = Done; rows = heldBy slot (keysOf h) }) refl other (λ ok. other Done refl))
   sound-other (Close slot) =
       rw e
-      (neither given _ (ltb slot slotCount) _ (λ q. omega (arith, ap numberOf q))
-      (neither given _ (slotAt h slot .taken) _ (λ q. omega (arith, ap numberOf q))
-      (λ q. omega (arith, ap numberOf q))))
-  sound-other Figured = rw e (λ q. omega (arith, ap numberOf q))
+      (checked-where (refusal h) (λ (o : Answered). Other (o .answer)) otherwise (drop 1 (slotChecks h slot)) _ refl
+      other (λ ok. other Done refl))
+  sound-other Figured = rw e (other Done refl)
 
 pub never-unsound : NeverUnsound
 never-unsound calls c sent own is = sound-other (reached fresh calls) (reached-sound calls sent) c is

@@ -2,40 +2,41 @@
 -- over sequences of calls. Of a house, a slot is what stands in its place and its rows as a list.
 -- Assumes nothing.
 use mathlib.Core.Path.{_≡_, refl, sym, subst, _∙_}
-use mathlib.Core.Bool.{Bool, true, false, cond, not}
+use mathlib.Core.Bool.{Bool, true, false, cond}
 use mathlib.Core.List.{List, []}
 use Prim.Native.Nat.{ℕ, _-_, _%_, _<_}
 use native.Mathlib.Omega.{arith}
-use borrow.Author.Tests.{lt-ltb, ltb-true, eq-eqb, ne-eqb, eqb-false}
-use lib.Dec.{leb, ltb, eqb}
+use borrow.Author.Tests.{lt-ltb, eq-eqb, ne-eqb, eqb-false}
+use lib.Dec.{leb, eqb}
 use lib.ListN.{getD, set}
 use lib.Seq.{getD-set-same, getD-set-other}
 use Rattle.answers.specs.declared.Answer.{Answer}
 use Rattle.answers.specs.declared.Answer.the-variants.{Done, NoRoom}
+use Rattle.prelude.proofs.Checks.{checked-by}
 use Rattle.numbers.specs.Laws.{Bytes}
 use Rattle.rows.specs.Rows.{slotCount, slotSpan, rowKey, counted, keysUsed, countsUsed}
 use Rattle.rows.specs.Counts.{Count, plus, rowsBy}
 use Rattle.rows.proofs.Counts.{counted-rows-by, dropped-rows-by}
 use Rattle.session.specs.declared.Session.{Session}
-use Rattle.session.specs.declared.Standing.{Standing}
+use Rattle.session.specs.declared.Change.{Change}
 use Rattle.session.specs.declared.Verdict.{Verdict}
-use Rattle.session.specs.declared.Verdict.the-variants.{Refused, Taken, Opened, Wanted}
-use Rattle.session.specs.Laws.{KeyRight}
-use Rattle.session.specs.After as session
-use Rattle.session.specs.After.{verdictOn}
-use Rattle.session.proofs.Judgement.{judged-key}
+use Rattle.session.specs.declared.Verdict.the-variants.{Refused, Taken, Wanted}
+use Rattle.settling.specs.Settling.{changed}
+use Rattle.judging.specs.Judge.{verdictOn}
+use Rattle.judging.specs.Laws.{KeyRight}
+use Rattle.judging.proofs.Laws.{judged-key}
 use Rattle.house.specs.declared.Slot.{Slot}
 use Rattle.house.specs.declared.House.{House}
 use Rattle.house.specs.declared.Answered.{Answered}
 use Rattle.house.specs.House.{rowCount, noSlot, closedSlot, openedSlot, keysOf, countsOf, free, promised, sound}
-use Rattle.house.specs.Deliver.{core, granted, rowTaken, resultedIf, settled, delivered}
-use Rattle.house.specs.Calls.{slotAt, openSlot, closeSlot, roomOf, withOutcome}
-use Rattle.house.specs.Calls.{deliver}
+use Rattle.house.specs.Deliver.{granted, rowTaken, resultedIf, settled, delivered}
+use Rattle.house.specs.Calls.{slotAt, openSlot, closeSlot, roomOf, settledTo, withOutcome}
+use Rattle.house.specs.Calls.{refusal, openChecks, slotChecks, deliver}
 use Rattle.house.specs.History.{Call, Open, Deliver, Report, Close, Figured, after, names, Sent}
 use Rattle.house.specs.Laws.{Shaped}
 use Rattle.house.specs.Demands.{roomFor}
-use Rattle.house.proofs.Calling.{deliver-judged}
-use Rattle.house.proofs.Keeping.{unless-by, keys-kept, key-low, key-slot, room, withSession}
+use Rattle.house.proofs.Calling.{can-open, is-open, deliver-judged}
+use Rattle.house.proofs.Keeping.{keys-kept, key-low, key-slot, room, withSession}
 
 -- a slot's rows
 abbrev pub rowsAt : House → ℕ → List Count
@@ -56,21 +57,18 @@ alike-on slot h g k a b = record { stands = a .stands ∙ b .stands; rows = a .r
 
 abbrev pub answerBy : Verdict → Bool → Answer
 answerBy (Refused a) b = a
-answerBy (Taken next) b = Done
-answerBy (Opened next rank part) b = Done
-answerBy (Wanted next rank key) b = cond b Done NoRoom
+answerBy (Taken change) b = Done
+answerBy (Wanted change key) b = cond b Done NoRoom
 
 abbrev pub sessionBy : Session → Verdict → Bool → Session
 sessionBy s (Refused a) b = s
-sessionBy s (Taken next) b = session.after s (Taken next)
-sessionBy s (Opened next rank part) b = session.after s (Opened next rank part)
-sessionBy s (Wanted next rank key) b = cond b (session.after s (Wanted next rank key)) s
+sessionBy s (Taken change) b = changed s change
+sessionBy s (Wanted change key) b = cond b (changed s change) s
 
 abbrev pub rowsAfter : List Count → Verdict → Bool → List Count
 rowsAfter rows (Refused a) b = rows
-rowsAfter rows (Taken next) b = rows
-rowsAfter rows (Opened next rank part) b = rows
-rowsAfter rows (Wanted next rank key) b = cond b (plus key rows) rows
+rowsAfter rows (Taken change) b = rows
+rowsAfter rows (Wanted change key) b = cond b (plus key rows) rows
 
 abbrev pub nextSlot : Slot → Verdict → Bool → Slot
 nextSlot s v b = record { taken = s .taken; floor = s .floor; session = sessionBy (s .session) v b }
@@ -98,12 +96,10 @@ module _ (h : House) (slot : ℕ) (shape : Shaped h) (e : sound h ≡ true) (ins
   ses = slotAt h slot .session
 
   abbrev outcome : Verdict → Answered
-  outcome v =
-      withOutcome h slot
-      (settled (roomOf h slot) (core (h .keys) (h .counts) (h .used) (ses .standing) (ses .parts)) v)
+  outcome v = withOutcome h slot (settledTo h slot v)
 
   -- the rows after a part result that is granted
-  module _ (st : Standing) (rank key : ℕ) (right : KeyRight (Wanted st rank key))
+  module _ (change : Change) (key : ℕ) (right : KeyRight (Wanted change key))
       (got : granted (roomOf h slot) (keysOf h) (rowKey slot key) ≡ true) where
     abbrev row : ℕ
     row = rowKey slot key
@@ -120,68 +116,47 @@ module _ (h : House) (slot : ℕ) (shape : Shaped h) (e : sound h ≡ true) (ins
         rw (key-slot slot key low, key-in slot key low) at all
 
   own-settled : (v : Verdict) → KeyRight v → Own h slot v (outcome v)
-  unfolding settled resultedIf rowTaken session.after
+  unfolding settled resultedIf rowTaken
   own-settled (Refused a) right =
       record { answer = refl; stands = set-own h slot shape inside (slotAt h slot); rows = refl }
-  own-settled (Taken next) right =
+  own-settled (Taken change) right =
       record {
         answer = refl;
-        stands = set-own h slot shape inside (withSession (slotAt h slot) (session.after ses (Taken next)));
+        stands = set-own h slot shape inside (withSession (slotAt h slot) (changed ses change));
         rows = refl;
       }
-  own-settled (Opened next rank part) right =
-      record {
-        answer = refl;
-        stands =
-            set-own h slot shape inside (withSession (slotAt h slot) (session.after ses (Opened next rank part)));
-        rows = refl;
-      }
-  own-settled (Wanted next rank key) right = go (granted (roomOf h slot) (keysOf h) (rowKey slot key)) refl
+  own-settled (Wanted change key) right = go (granted (roomOf h slot) (keysOf h) (rowKey slot key)) refl
     where
       go : (b : Bool) → granted (roomOf h slot) (keysOf h) (rowKey slot key) ≡ b
-          → Own h slot (Wanted next rank key) (outcome (Wanted next rank key))
+          → Own h slot (Wanted change key) (outcome (Wanted change key))
       go true got =
           record {
             answer = rw got;
-            stands =
-                rw got
-                (set-own h slot shape inside
-                (withSession (slotAt h slot) (session.after ses (Wanted next rank key))));
-            rows = rw got (rows-after next rank key right got slot ∙ rw (eq-eqb slot slot refl));
+            stands = rw got (set-own h slot shape inside (withSession (slotAt h slot) (changed ses change)));
+            rows = rw got (rows-after change key right got slot ∙ rw (eq-eqb slot slot refl));
           }
       go false got =
           record { answer = rw got; stands = rw got (set-own h slot shape inside (slotAt h slot)); rows = rw got }
 
   -- .. and of another
   else-settled : (v : Verdict) → KeyRight v → (i : ℕ) → (i ≡ slot → ⊥) → Alike i (outcome v .house) h
-  unfolding settled resultedIf rowTaken session.after
+  unfolding settled resultedIf rowTaken
   else-settled (Refused a) right i other =
       record { stands = set-else h slot shape inside (slotAt h slot) i other; rows = refl }
-  else-settled (Taken next) right i other =
+  else-settled (Taken change) right i other =
       record {
-        stands =
-            set-else h slot shape inside (withSession (slotAt h slot) (session.after ses (Taken next))) i other;
+        stands = set-else h slot shape inside (withSession (slotAt h slot) (changed ses change)) i other;
         rows = refl;
       }
-  else-settled (Opened next rank part) right i other =
-      record {
-        stands =
-            set-else h slot shape inside
-            (withSession (slotAt h slot) (session.after ses (Opened next rank part))) i other;
-        rows = refl;
-      }
-  else-settled (Wanted next rank key) right i other =
+  else-settled (Wanted change key) right i other =
       go (granted (roomOf h slot) (keysOf h) (rowKey slot key)) refl
     where
       go : (b : Bool) → granted (roomOf h slot) (keysOf h) (rowKey slot key) ≡ b
-          → Alike i (outcome (Wanted next rank key) .house) h
+          → Alike i (outcome (Wanted change key) .house) h
       go true got =
           record {
-            stands =
-                rw got
-                (set-else h slot shape inside
-                (withSession (slotAt h slot) (session.after ses (Wanted next rank key))) i other);
-            rows = rw got (rows-after next rank key right got i ∙ rw (ne-eqb slot i (λ q. other (sym q))));
+            stands = rw got (set-else h slot shape inside (withSession (slotAt h slot) (changed ses change)) i other);
+            rows = rw got (rows-after change key right got i ∙ rw (ne-eqb slot i (λ q. other (sym q))));
           }
       go false got =
           record { stands = rw got (set-else h slot shape inside (slotAt h slot) i other); rows = rw got }
@@ -189,45 +164,38 @@ module _ (h : House) (slot : ℕ) (shape : Shaped h) (e : sound h ≡ true) (ins
 -- ---- a call that names another slot
 
 module _ (slot : ℕ) (h : House) (shape : Shaped h) where
+  abbrev stays : Answered → Type 0
+  stays o = Alike slot (o .house) h
+
   else-open : (i floor : ℕ) → (slot ≡ i → ⊥) → Alike slot (openSlot h i floor .house) h
   unfolding openSlot
   else-open i floor other =
-      let same = alike-same slot h in
-      unless-by (λ (g : House). Alike slot g h) _ (sound h) _ same (λ fine.
-      unless-by (λ (g : House). Alike slot g h) _ (ltb i slotCount) _ same (λ inside.
-      unless-by (λ (g : House). Alike slot g h) _ (leb floor rowCount) _ same (λ low.
-      unless-by (λ (g : House). Alike slot g h) _ (not (slotAt h i .taken)) _ same (λ shut.
-      unless-by (λ (g : House). Alike slot g h) _ (leb floor (free h - promised h)) _ same (λ wide.
+      checked-by (refusal h) stays (openChecks h i floor) _ (λ a. alike-same slot h) (λ e.
       record {
-        stands = set-else h i shape (ltb-true i slotCount inside) (openedSlot floor) slot other;
+        stands = set-else h i shape (can-open h i floor e .inside) (openedSlot floor) slot other;
         rows = refl;
-      })))))
+      })
 
   else-close : (i : ℕ) → (slot ≡ i → ⊥) → Alike slot (closeSlot h i .house) h
   unfolding closeSlot
   else-close i other =
-      let same = alike-same slot h in
-      unless-by (λ (g : House). Alike slot g h) _ (sound h) _ same (λ fine.
-      unless-by (λ (g : House). Alike slot g h) _ (ltb i slotCount) _ same (λ within.
-      unless-by (λ (g : House). Alike slot g h) _ (slotAt h i .taken) _ same (λ t.
-      let inside = ltb-true i slotCount within in
+      checked-by (refusal h) stays (slotChecks h i) _ (λ a. alike-same slot h) (λ e.
+      let told = is-open h i e in
       record {
-        stands = set-else h i shape inside closedSlot slot other;
+        stands = set-else h i shape (told .inside) closedSlot slot other;
         rows =
-            dropped-rows-by slot (h .keys) (h .counts) (h .used) i (keys-kept h i shape fine inside)
+            dropped-rows-by slot (h .keys) (h .counts) (h .used) i (keys-kept h i shape (told .fine) (told .inside))
             ∙ rw (ne-eqb slot i other);
-      })))
+      })
 
   else-deliver : (i : ℕ) (rec : List ℕ) → Bytes rec → (slot ≡ i → ⊥) → Alike slot (deliver h i rec .house) h
   unfolding deliver delivered
   else-deliver i rec bytes other =
-      let same = alike-same slot h in
-      unless-by (λ (g : House). Alike slot g h) _ (sound h) _ same (λ fine.
-      unless-by (λ (g : House). Alike slot g h) _ (ltb i slotCount) _ same (λ within.
-      unless-by (λ (g : House). Alike slot g h) _ (slotAt h i .taken) _ same (λ t.
+      checked-by (refusal h) stays (slotChecks h i) _ (λ a. alike-same slot h) (λ e.
+      let told = is-open h i e in
       let s = slotAt h i .session in
-      else-settled h i shape fine (ltb-true i slotCount within) t (verdictOn s rec) (judged-key s rec bytes) slot
-      other)))
+      else-settled h i shape (told .fine) (told .inside) (told .opened) (verdictOn s rec) (judged-key s rec bytes) slot
+      other)
 
 pub else-alike : (slot : ℕ) (h : House) (c : Call) → Shaped h → Sent c → names slot c ≡ false
     → Alike slot (after h c) h

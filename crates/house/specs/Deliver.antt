@@ -3,11 +3,12 @@
 --
 --   granted     whether a key gets a row, or needs none
 --   Core        all that such a record may change
---   delivered   the answer and the core after a record
+--   settled     the answer and the core after a verdict
+--   delivered   .. and after a record
 --   guessed     what is noted of where a row stood, for the next search
 -- Assumes nothing.
 use mathlib.Core.Path.{_≡_}
-use mathlib.Core.Bool.{Bool, true, false, cond, _||_}
+use mathlib.Core.Bool.{Bool, true, cond, _||_}
 use mathlib.Core.List.{List}
 use Prim.Native.Nat.{ℕ, _+_, _-_, _*_, _/_, _%_, _≤_, _<_}
 use lib.Dec.{ltb}
@@ -19,10 +20,12 @@ use Rattle.rising.specs.Rising.{rising, rank, held, allBelow}
 use Rattle.rows.specs.Rows.{rowKey, heldBy, counted}
 use Rattle.session.specs.declared.Standing.{Standing}
 use Rattle.session.specs.declared.Verdict.{Verdict}
-use Rattle.session.specs.declared.Verdict.the-variants.{Refused, Taken, Opened, Wanted}
-use Rattle.session.specs.Session as session
-use Rattle.session.specs.Judge.{judge}
-use Rattle.session.specs.After.{partOpened, partClosed}
+use Rattle.session.specs.declared.Verdict.the-variants.{Refused, Taken, Wanted}
+use Rattle.session.specs.declared.Session.{Session}
+use Rattle.session.specs.declared.Change.{Change}
+use Rattle.session.specs.Session.{LentParts}
+use Rattle.settling.specs.Settling.{lentSession, changed}
+use Rattle.judging.specs.Judge.{judge}
 use Rattle.house.specs.declared.Room.{Room}
 use Rattle.house.specs.declared.Granting.{Granting}
 use Rattle.house.specs.declared.Granting.the-variants.{Rows, NoRoom}
@@ -58,6 +61,13 @@ abbrev pub core : List ℕ → List ℕ → ℕ → Standing → List ℕ → Co
 core keys counts used st parts =
     record { keys = keys; counts = counts; used = used; standing = st; parts = parts }
 
+-- a core's session, and an outcome with a whole session
+abbrev pub sessionOf : Core → Session
+sessionOf c = lentSession (c .standing) (c .parts)
+
+abbrev pub told : Answer → List ℕ → List ℕ → ℕ → Session → Outcome
+told a keys counts used s = outcome a keys counts used (s .standing) (s .parts)
+
 -- the rows, and whether a key got one of them
 pub record Rowed : Type 0 where
   pub keys : List ℕ
@@ -74,43 +84,24 @@ rowTaken room keys counts used key =
     cond (granted room (take used keys) key) (rowed (rows .keys) (rows .counts) (Rows (rows .used)))
     (rowed keys counts NoRoom)
 
--- a part result: its part closes only with its row, and room, 13, is judged last
-abbrev pub resulted : Rowed → ℕ → Standing → List ℕ → Standing → ℕ → Granting → Outcome
-resulted r used st parts next rank (Rows n) =
-    outcome Done (r .keys) (r .counts) n next (partClosed parts (st .opened) rank)
-resulted r used st parts next rank NoRoom = outcome answer.NoRoom (r .keys) (r .counts) used st parts
+-- a part result: it changes its session only with its row, and room, 13, is judged last
+abbrev pub resulted : Rowed → ℕ → Session → Change → Granting → Outcome
+resulted r used s change (Rows n) = told Done (r .keys) (r .counts) n (changed s change)
+resulted r used s change NoRoom = told answer.NoRoom (r .keys) (r .counts) used s
 
-unfoldable pub resultedIf : Room → List ℕ → List ℕ → ℕ → Standing → List ℕ → Standing → ℕ → ℕ → Outcome
-resultedIf room keys counts used st parts next rank key =
-    let r = rowTaken room keys counts used (rowKey (room .slot) key) in
-    resulted r used st parts next rank (r .granting)
+unfoldable pub resultedIf : Room → Core → Change → ℕ → Outcome
+resultedIf room c change key =
+    let r = rowTaken room (c .keys) (c .counts) (c .used) (rowKey (room .slot) key) in
+    resulted r (c .used) (sessionOf c) change (r .granting)
 
+-- what a verdict does: what a change is, is the session's to say
 unfoldable pub settled : Room → Core → Verdict → Outcome
 settled room c (Refused a) = record { answer = a; core = c }
-settled room c (Taken next) = outcome Done (c .keys) (c .counts) (c .used) next (c .parts)
-settled room c (Opened next rank part) =
-    outcome Done (c .keys) (c .counts) (c .used) next (partOpened (c .parts) (c .standing .opened) rank part)
-settled room c (Wanted next rank key) =
-    resultedIf room (c .keys) (c .counts) (c .used) (c .standing) (c .parts) next rank key
+settled room c (Taken change) = told Done (c .keys) (c .counts) (c .used) (changed (sessionOf c) change)
+settled room c (Wanted change key) = resultedIf room c change key
 
 unfoldable pub delivered : Room → Core → List ℕ → Outcome
 delivered room c rec = settled room c (judge (c .standing) (take (c .standing .opened) (c .parts)) rec)
-
--- ---- a verdict that asks for no row
-
--- only a part result asks for one: any other record leaves the rows alone
-abbrev pub wantsRow : Verdict → Bool
-wantsRow (Refused a) = false
-wantsRow (Taken next) = false
-wantsRow (Opened next rank part) = false
-wantsRow (Wanted next rank key) = true
-
--- .. and its answer is told by the verdict; asked only of one that wants no row
-abbrev pub plainAnswer : Verdict → Answer
-plainAnswer (Refused a) = a
-plainAnswer (Taken next) = Done
-plainAnswer (Opened next rank part) = Done
-plainAnswer (Wanted next rank key) = Done
 
 -- ---- where a row is looked for first
 
@@ -127,9 +118,8 @@ noted slot keys key guesses = set guesses (cellOf key) (rank (rowKey slot key) k
 -- only a part result is searched for, whether it is granted or not
 unfoldable pub guessed : Room → Core → Verdict → List ℕ → List ℕ
 guessed room c (Refused a) guesses = guesses
-guessed room c (Taken next) guesses = guesses
-guessed room c (Opened next at part) guesses = guesses
-guessed room c (Wanted next at key) guesses = noted (room .slot) (take (c .used) (c .keys)) key guesses
+guessed room c (Taken change) guesses = guesses
+guessed room c (Wanted change key) guesses = noted (room .slot) (take (c .used) (c .keys)) key guesses
 
 -- ---- what is lent
 
@@ -147,7 +137,7 @@ pub record LentRows (room : Room) (keys counts : List ℕ) (used : ℕ) : Type 0
 -- .. with its session
 pub record LentCore (room : Room) (keys counts : List ℕ) (used : ℕ) (st : Standing) (parts : List ℕ) : Type 0 where
   pub rows : LentRows room keys counts used
-  pub kept : session.Kept st parts
+  pub kept : LentParts st parts
   pub cells : length parts ≡ 32
 
 -- the keys of a sound house, a slot of it and a key with its rank

@@ -19,9 +19,9 @@ use Rattle.rows.specs.Rows.{slotCount, slotOf, rowKey, heldBy}
 use Rattle.rows.specs.Counts.{keysIn}
 use Rattle.rising.specs.Rising.{rising, held}
 use Rattle.session.specs.declared.Verdict.{Verdict}
-use Rattle.session.specs.declared.Verdict.the-variants.{Refused, Taken, Opened, Wanted}
-use Rattle.session.specs.After.{verdictOn}
-use Rattle.session.specs.Results.{verdictNumber}
+use Rattle.session.specs.declared.Verdict.the-variants.{Refused, Taken, Wanted}
+use Rattle.session.specs.Verdicts.{verdictNumber}
+use Rattle.judging.specs.Judge.{verdictOn}
 use Rattle.house.specs.declared.House.{House}
 use Rattle.house.specs.declared.Row.{Row}
 use Rattle.house.specs.House as house
@@ -62,13 +62,12 @@ OpenNumber = (h : House) (slot floor : ℕ)
     ∷ (leb floor (free h - house.promised h) else 13)
     ∷ [])
 
--- a part result asks for a row, and room, 13, comes last: a record's own number is session's to say, by its FirstNumber
--- and LaterNumber
+-- a part result asks for a row, and room, 13, comes last: a record's own number is session's to say, by FirstNumber of
+-- first_record and LaterNumber of later_records
 abbrev pub roomFor : House → ℕ → Verdict → Bool
 roomFor h slot (Refused a) = true
-roomFor h slot (Taken next) = true
-roomFor h slot (Opened next rank part) = true
-roomFor h slot (Wanted next rank key) = granted (roomOf h slot) (keysOf h) (rowKey slot key)
+roomFor h slot (Taken change) = true
+roomFor h slot (Wanted change key) = granted (roomOf h slot) (keysOf h) (rowKey slot key)
 
 abbrev pub DeliverNumber : Type 0
 DeliverNumber = (h : House) (slot : ℕ) (rec : List ℕ)
@@ -171,9 +170,8 @@ NeverRefused = (calls : List Call) (slot : ℕ) (rec : List ℕ) → AllSent cal
 -- the rows it holds and, at a PRR judged for room, the new one it asks for, granted or not
 abbrev pub asking : ℕ → List ℕ → Verdict → ℕ
 asking slot keys (Refused a) = 0
-asking slot keys (Taken next) = 0
-asking slot keys (Opened next rank part) = 0
-asking slot keys (Wanted next rank key) = cond (held (rowKey slot key) keys) 0 1
+asking slot keys (Taken change) = 0
+asking slot keys (Wanted change key) = cond (held (rowKey slot key) keys) 0 1
 
 abbrev pub needs : House → ℕ → Call → ℕ
 needs h slot (Open i floor) = heldBy slot (keysOf h)

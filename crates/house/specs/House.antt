@@ -3,7 +3,8 @@
 --   closedSlot, openedSlot, fresh   a slot that holds nothing, one just opened, a house of the first alone
 --   keysOf, countsOf                the rows in use
 --   free, promised                  how many rows no session holds, and how many are still owed
---   sound, soundness                document 01's conditions on a sound house, and what a test of them tells
+--   conditions, sound, soundness    document 01's conditions on a sound house, whether all hold, and what a test of
+--                                   them tells
 -- Assumes nothing.
 use Prim.Native.Nat.{ℕ, suc, _+_, _-_, _≤_}
 use mathlib.Core.Path.{_≡_}
@@ -12,6 +13,7 @@ use mathlib.Core.List.{List, [], _∷_, map}
 use lib.Dec.{leb, eqb}
 use lib.ListN.{length, take, replicate}
 use Rattle.rising.specs.Rising.{rising}
+use Rattle.prelude.specs.All.{all}
 use Rattle.rows.specs.Rows.{slotCount, heldBy, sumBy, rowsRight}
 use Rattle.session.specs.Session as session
 use Rattle.session.specs.Session.{begun, nothingYet, mostResults}
@@ -75,27 +77,38 @@ takenOf slots = map (λ (s : Slot). s .taken) slots
 unfoldable pub rowsSound : List Bool → List ℕ → List ℕ → Bool
 rowsSound taken keys counts = rising keys && rowsRight taken keys counts
 
--- an open slot: its floor at most 1,024, its session sound, its counts the sum of its accepted PRRs, at most
--- 4,294,967,295; a closed slot holds nothing
+-- an open slot: its floor at most 1,024, its session sound, its accepted PRRs at most 4,294,967,295 and the sum of its
+-- counts
+abbrev pub openConditions : ℕ → Slot → List ℕ → List ℕ → List Bool
+openConditions i s keys counts =
+    leb (s .floor) rowCount
+    ∷ session.sound (s .session)
+    ∷ leb (s .session .standing .results) mostResults
+    ∷ eqb (sumBy i keys counts) (s .session .standing .results)
+    ∷ []
+
+-- a closed slot holds nothing
+abbrev pub closedConditions : Slot → List Bool
+closedConditions s = eqb (s .floor) 0 ∷ nothingYet (s .session .standing) ∷ []
+
 unfoldable pub slotSound : ℕ → Slot → List ℕ → List ℕ → Bool
-slotSound i s keys counts =
-    cond (s .taken)
-    (leb (s .floor) rowCount
-    && (session.sound (s .session)
-    && (leb (s .session .standing .results) mostResults
-    && eqb (sumBy i keys counts) (s .session .standing .results))))
-    (eqb (s .floor) 0 && nothingYet (s .session .standing))
+slotSound i s keys counts = all (cond (s .taken) (openConditions i s keys counts) (closedConditions s))
 
 unfoldable pub slotsSound : ℕ → List Slot → List ℕ → List ℕ → Bool
 slotsSound i [] keys counts = true
 slotsSound i (s ∷ ss) keys counts = slotSound i s keys counts && slotsSound (suc i) ss keys counts
 
 -- .. and free is at least promised
-unfoldable pub sound : House → Bool
-sound h =
+abbrev pub conditions : House → List Bool
+conditions h =
     leb (h .used) rowCount
-    && (rowsSound (takenOf (h .slots)) (keysOf h) (countsOf h)
-    && (slotsSound 0 (h .slots) (keysOf h) (countsOf h) && leb (promised h) (free h)))
+    ∷ rowsSound (takenOf (h .slots)) (keysOf h) (countsOf h)
+    ∷ slotsSound 0 (h .slots) (keysOf h) (countsOf h)
+    ∷ leb (promised h) (free h)
+    ∷ []
+
+unfoldable pub sound : House → Bool
+sound h = all (conditions h)
 
 -- what a test of it tells: whether it is sound, and the rows promised, 0 where it is not
 abbrev pub unsound : Soundness

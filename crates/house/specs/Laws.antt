@@ -13,15 +13,15 @@ use Rattle.numbers.specs.Laws.{Bytes}
 use Rattle.answers.specs.declared.Answer.the-variants.{Done}
 use Rattle.rising.specs.Rising.{allBelow}
 use Rattle.rows.specs.Rows.{slotCount, heldBy}
-use Rattle.session.specs.declared.Standing.{Standing}
+use Rattle.session.specs.declared.Change.{Change}
 use Rattle.session.specs.declared.Verdict.the-variants.{Wanted}
 use Rattle.session.specs.Session as session
 use Rattle.session.specs.Session.{mostOpen}
-use Rattle.session.specs.After.{verdictOn}
+use Rattle.judging.specs.Judge.{verdictOn}
 use Rattle.house.specs.declared.House.{House}
 use Rattle.house.specs.declared.Room.{Room}
 use Rattle.house.specs.House.{rowCount, fresh, keysOf, sound}
-use Rattle.house.specs.Deliver.{Core, delivered, pastCounts, LentRows, LentCore}
+use Rattle.house.specs.Deliver.{Core, sessionOf, delivered, pastCounts, LentRows, LentCore}
 use Rattle.house.specs.Calls.{slotAt, openSlot, closeSlot, deliver}
 use Rattle.house.specs.History.{Call, reached, AllSent}
 
@@ -48,8 +48,8 @@ DeliverKeeps = (h : House) (slot : ℕ) (rec : List ℕ) → Bytes rec → Shape
 
 -- a session below its floor is not refused for room: a part result that passes all other checks is accepted
 abbrev pub BelowFloor : Type 0
-BelowFloor = (h : House) (slot : ℕ) (rec : List ℕ) (st : Standing) (rank key : ℕ) → sound h ≡ true → slot < slotCount
-    → slotAt h slot .taken ≡ true → verdictOn (slotAt h slot .session) rec ≡ Wanted st rank key
+BelowFloor = (h : House) (slot : ℕ) (rec : List ℕ) (change : Change) (key : ℕ) → sound h ≡ true → slot < slotCount
+    → slotAt h slot .taken ≡ true → verdictOn (slotAt h slot .session) rec ≡ Wanted change key
     → heldBy slot (keysOf h) < slotAt h slot .floor → deliver h slot rec .answer ≡ Done
 
 -- ---- any sequence of calls
@@ -64,7 +64,7 @@ ReachedSound = (calls : List Call) → AllSent calls → sound (reached fresh ca
 -- by one
 pub record Lending (room : Room) (c : Core) (most : ℕ) : Type 0 where
   pub rows : LentRows room (c .keys) (c .counts) (c .used)
-  pub session : session.sound (record { standing = c .standing; parts = c .parts }) ≡ true
+  pub session : session.sound (sessionOf c) ≡ true
   pub cells : length (c .parts) ≡ mostOpen
   pub below : allBelow most (take (c .used) (c .counts)) ≡ true
 

@@ -4,26 +4,27 @@
 --   rowAt      the i-th row of a slot
 --   rowsOf     how many rows a report of a slot has; none where there is nothing to report
 --   rowsFrom   where the rows of a report stand among all rows
---   reported   what the call answers, and how many rows it writes into a slice that is so long
+--   reported   what the call answers, by reportChecks, and how many rows it writes into a slice that is so long
 --   listed     the first rows of a report, one after the other
 --   filled     a slice whose first rows are written, every other as it was
 --   listing    a report by value
 -- Assumes nothing.
 use Prim.Native.Nat.{ℕ, zero, suc, _+_}
-use mathlib.Core.Bool.{cond, _&&_}
+use mathlib.Core.Bool.{cond}
 use mathlib.Core.List.{List, [], _∷_, _++_}
-use lib.Dec.{leb, ltb}
+use lib.Dec.{leb}
 use lib.ListN.{getD, set, replicate}
-use Rattle.prelude.specs.Choice.{_unless_then_}
+use Rattle.prelude.specs.All.{all}
+use Rattle.prelude.specs.Checks.{Check, _else_, tests, checked}
 use Rattle.answers.specs.declared.Answer.{Answer}
-use Rattle.answers.specs.declared.Answer.the-variants.{Done, NoSuchSlot, SlotClosed, NotSound, OutputTooShort}
-use Rattle.rows.specs.Rows.{slotCount, headOf, siteOf, binOf, heldBy, slotRank}
+use Rattle.answers.specs.declared.Answer.the-variants.{Done, OutputTooShort}
+use Rattle.rows.specs.Rows.{headOf, siteOf, binOf, heldBy, slotRank}
 use Rattle.house.specs.declared.House.{House}
 use Rattle.house.specs.declared.Row.{Row}
 use Rattle.house.specs.declared.Reported.{Reported}
 use Rattle.house.specs.declared.Listing.{Listing}
-use Rattle.house.specs.House.{rowCount, keysOf, sound}
-use Rattle.house.specs.Calls.{slotAt}
+use Rattle.house.specs.House.{rowCount, keysOf}
+use Rattle.house.specs.Calls.{slotChecks}
 
 abbrev pub keyedRow : ℕ → ℕ → Row
 keyedRow key count = record { head = headOf key; site = siteOf key; bin = binOf key; count = count }
@@ -34,7 +35,7 @@ rowAt h slot i =
     keyedRow (getD (h .keys) at 0) (getD (h .counts) at 0)
 
 unfoldable pub rowsOf : House → ℕ → ℕ
-rowsOf h slot = cond (sound h && (ltb slot slotCount && slotAt h slot .taken)) (heldBy slot (keysOf h)) 0
+rowsOf h slot = cond (all (tests (slotChecks h slot))) (heldBy slot (keysOf h)) 0
 
 -- a report of no rows has no place: it is not looked for in a house that may be out of order
 abbrev pub rowsFrom : House → ℕ → ℕ → ℕ
@@ -45,13 +46,12 @@ abbrev pub unreported : Answer → Reported
 unreported a = record { answer = a; rows = 0 }
 
 -- Order of checks, Report: 15, 1, 2, 17
+abbrev pub reportChecks : House → ℕ → ℕ → List (Check Answer)
+reportChecks h slot long = slotChecks h slot ++ ((leb (heldBy slot (keysOf h)) long else OutputTooShort) ∷ [])
+
 unfoldable pub reported : House → ℕ → ℕ → Reported
 reported h slot long =
-    unreported NotSound unless sound h then
-    unreported NoSuchSlot unless ltb slot slotCount then
-    unreported SlotClosed unless slotAt h slot .taken then
-    unreported OutputTooShort unless leb (heldBy slot (keysOf h)) long then
-    record { answer = Done; rows = heldBy slot (keysOf h) }
+    checked unreported (reportChecks h slot long) (record { answer = Done; rows = heldBy slot (keysOf h) })
 
 abbrev pub listed : (ℕ → Row) → ℕ → List Row
 listed row zero = []

@@ -17,7 +17,8 @@ use Rattle.numbers.specs.declared.Order.{Order}
 use Rattle.numbers.specs.declared.Order.the-variants.{HighFirst}
 use Rattle.rows.specs.Rows.{slotCount}
 use Rattle.rows.specs.Counts.{Count, plus}
-use Rattle.session.specs.Results.{Result, None, Part, resultOf, orderIn}
+use Rattle.first_record.specs.First.{orderIn}
+use Rattle.later_records.specs.Results.{Result, None, Part, resultOf}
 use Rattle.house.specs.declared.Row.{Row}
 use Rattle.house.specs.House.{rowCount}
 use Rattle.house.specs.Report.{keyedRow}

@@ -16,10 +16,10 @@ pub struct Slot {
 
 // The rows in use stand first in both arrays, their keys rising: slot, head, site and bin in one number.
 pub struct House {
-    pub keys: [u64; 1024],
-    pub counts: [u64; 1024],
+    pub keys: [u64; House::ROWS],
+    pub counts: [u64; House::ROWS],
     pub used: usize,
-    pub slots: [Slot; 16],
+    pub slots: [Slot; House::SLOTS],
 }
 
 // What a test of a house tells: whether it is sound, and how many rows are promised, 0 where it is not.
@@ -75,10 +75,10 @@ pub struct Reported {
     pub rows: usize,
 }
 
-// A report by value: its rows are the first of 1,024.
+// A report by value: its rows are the first of as many as a house has.
 pub struct Listing {
     pub reported: Reported,
-    pub rows: [Row; 1024],
+    pub rows: [Row; House::ROWS],
 }
 
 impl Slot {
@@ -115,10 +115,10 @@ impl House {
         ensures { λ r. ⌜ r ≡ fresh ⌝ }
     {
         let slot = Slot::closed();
-        let slots = [slot; 16];
+        let slots = [slot; House::SLOTS];
         House {
-            keys: [0; 1024],
-            counts: [0; 1024],
+            keys: [0; House::ROWS],
+            counts: [0; House::ROWS],
             used: 0,
             slots,
         }

@@ -1,8 +1,7 @@
 // Which kind of record a type and a subtype name: document 01, "Record frame and kinds".
 ghost use mathlib.Core.Path.{_≡_};
 ghost use Prim.Native.Nat.{_+_, _*_, _<_};
-ghost use lib.ListN.{getD};
-ghost use Rattle.kinds.specs.Kinds.{pairs, noPair, hasType, beyondTable, kindOf, known};
+ghost use Rattle.kinds.specs.Kinds.{pairs, hasType, beyondTable, kindOf, known};
 
 // The kinds of STDF V4 whose bodies this house does not read and whose places within the body it does not judge.
 pub enum Remaining {
@@ -73,21 +72,14 @@ const PAIRS: [Pair; PAIR_COUNT] = [
     Pair(50, 30, Kind::Remaining(Remaining::Dtr)),
 ];
 
-// The table's entry i.
-fn entry(i: usize) -> Pair
-    requires { ⌜ i < 25 ⌝ }
-    ensures { λ r. ⌜ r ≡ getD pairs i noPair ⌝ }
-{
-    PAIRS[i]
-}
-
-// Whether any of the twenty-five pairs has the type.
-fn has_type(typ: u8) -> bool
+// Whether any of the table's pairs has the type.
+fn has_type(table: [Pair; PAIR_COUNT], typ: u8) -> bool
+    requires { ⌜ table ≡ pairs ⌝ }
     ensures { λ r. ⌜ r ≡ hasType pairs typ ⌝ }
 {
     let mut i: usize = 0;
     while i < PAIR_COUNT {
-        let p = entry(i);
+        let p = table[i];
         if p.0 == typ {
             return true;
         }
@@ -96,8 +88,9 @@ fn has_type(typ: u8) -> bool
     false
 }
 
-// The kind of a pair that is none of the twenty-five.
-fn beyond(typ: u8, sub: u8) -> Kind
+// The kind of a pair that is none of the table's.
+fn beyond(table: [Pair; PAIR_COUNT], typ: u8, sub: u8) -> Kind
+    requires { ⌜ table ≡ pairs ⌝ }
     ensures { λ r. ⌜ r ≡ beyondTable typ sub ⌝ }
 {
     if 200 < typ {
@@ -106,7 +99,7 @@ fn beyond(typ: u8, sub: u8) -> Kind
     if sub <= 200 {
         return Kind::Unknown;
     }
-    if has_type(typ) {
+    if has_type(table, typ) {
         Kind::Custom
     } else {
         Kind::Unknown
@@ -120,8 +113,8 @@ fn code_of(typ: u8, sub: u8) -> u32
     typ as u32 * 256 + sub as u32
 }
 
-// The kind that the table gives a type and a subtype. The table is handed in: a constant that is named in a loop is
-// laid out anew at each turn.
+// The kind that the table gives a type and a subtype. The table is handed in, here and above: a constant that is named
+// in a loop is laid out anew at each turn, and is proved anew wherever it is named.
 fn searched(table: [Pair; PAIR_COUNT], typ: u8, sub: u8) -> Kind
     requires { ⌜ table ≡ pairs ⌝ }
     ensures { λ r. ⌜ r ≡ kindOf typ sub ⌝ }
@@ -136,7 +129,7 @@ fn searched(table: [Pair; PAIR_COUNT], typ: u8, sub: u8) -> Kind
         }
         i += 1;
     }
-    beyond(typ, sub)
+    beyond(table, typ, sub)
 }
 
 // The kind that a type and a subtype name.

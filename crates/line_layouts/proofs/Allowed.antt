@@ -9,19 +9,18 @@ use lib.Dec.{eqb}
 use lib.ListN.{getD, drop}
 use lib.Seq.{getD-take, getD-drop}
 use Rattle.output.specs.Placed.{part}
-use Rattle.line_layouts.specs.Columns.{separator}
 use Rattle.line_layouts.specs.Names.{allowed}
 
-pub allowed-low : (b : ℕ) → b < 32 → allowed b ≡ false
+pub allowed-low : (sep b : ℕ) → b < 32 → allowed sep b ≡ false
 unfolding allowed
-allowed-low b h = rw (lt-leb 32 b h)
+allowed-low sep b h = rw (lt-leb 32 b h)
 
-module _ (b : ℕ) (h : 32 ≤ b) where
-  pub allowed-high : 126 < b → allowed b ≡ false
+module _ (sep b : ℕ) (h : 32 ≤ b) where
+  pub allowed-high : 126 < b → allowed sep b ≡ false
   unfolding allowed
   allowed-high g = rw (le-leb 32 b h, lt-leb b 126 g)
 
-  pub allowed-else : b ≤ 126 → allowed b ≡ not (eqb b separator)
+  pub allowed-else : b ≤ 126 → allowed sep b ≡ not (eqb b sep)
   unfolding allowed
   allowed-else g = rw (le-leb 32 b h, le-leb b 126 g)
 

@@ -1,3 +1,6 @@
+pub mod Arranging
+pub mod Tables
 pub mod Laid
+pub mod Fills
 pub mod Faults
 pub mod Allowed

@@ -4,17 +4,22 @@
 --   separator, lineFeed, carriageReturn   the bytes between fields and at the end of a line
 --   tagText     how a line of each tag begins
 --   subOf       the subtype of its record
---   columns     its fields: type, the most that the text may hold, whether it is required
+--   columns     its fields, in the order of the record: type, the most that the text may hold, whether text must give
+--               it, and how a record leaves it out
+--   bar         how many of them a record must have
+--   order       the columns of a line, in the order of the text
 --   width       the bytes of a type in a record
 -- Assumes nothing.
 use Prim.Native.Nat.{ℕ}
 use Prim.Native.Char.{code}
 use mathlib.Core.Bool.{true, false}
 use mathlib.Core.List.{List, [], _∷_}
+use Rattle.values.specs.Values.{mostHead, mostBin}
 use Rattle.line_layouts.specs.declared.Tag.{Tag}
 use Rattle.line_layouts.specs.declared.Tag.the-variants.{Pcr, Hbr, Sbr}
 use Rattle.line_layouts.specs.declared.Form.{Form}
 use Rattle.line_layouts.specs.declared.Form.the-variants.{U1, U2, U4, C1, Cn}
+use Rattle.line_layouts.specs.declared.Flag.the-variants.{Never, Own, Beside}
 use Rattle.line_layouts.specs.declared.Column.{Column}
 
 abbrev pub separator : ℕ
@@ -48,27 +53,28 @@ mostCount = 4_294_967_295
 abbrev pub mostOptional : ℕ
 mostOptional = 4_294_967_294
 
--- head 0 to 254, site 0 to 255, parts, then retest, abort, good, functional
+-- head 0 to 254, site 0 to 255, parts, then retest, abort, good, functional. STDF head 255 is both empty, its site
+-- ignored
 abbrev pub pcrColumns : List Column
 pcrColumns =
-    (U1, 254, false) ∷
-    (U1, 255, false) ∷
-    (U4, mostCount, true) ∷
-    (U4, mostOptional, false) ∷
-    (U4, mostOptional, false) ∷
-    (U4, mostOptional, false) ∷
-    (U4, mostOptional, false) ∷
+    (U1, mostHead, false, Own) ∷
+    (U1, 255, false, Beside) ∷
+    (U4, mostCount, true, Never) ∷
+    (U4, mostOptional, false, Own) ∷
+    (U4, mostOptional, false, Own) ∷
+    (U4, mostOptional, false, Own) ∷
+    (U4, mostOptional, false, Own) ∷
     []
 
 -- head, site, bin 0 to 32,767, count, then P/F by its first character, and a name of at most 255 bytes
 abbrev pub binColumns : List Column
 binColumns =
-    (U1, 254, false) ∷
-    (U1, 255, false) ∷
-    (U2, 32_767, true) ∷
-    (U4, mostCount, true) ∷
-    (C1, 1, false) ∷
-    (Cn, 255, false) ∷
+    (U1, mostHead, false, Own) ∷
+    (U1, 255, false, Beside) ∷
+    (U2, mostBin, true, Never) ∷
+    (U4, mostCount, true, Never) ∷
+    (C1, 1, false, Own) ∷
+    (Cn, 255, false, Own) ∷
     []
 
 -- SBR is laid out as HBR
@@ -79,7 +85,25 @@ columns Sbr = binColumns
 
 -- what stands past a table's end
 abbrev pub noColumn : Column
-noColumn = (U1, 0, false)
+noColumn = (U1, 0, false, Never)
+
+-- the fields before the bar
+abbrev pub bar : Tag → ℕ
+bar Pcr = 3
+bar Hbr = 4
+bar Sbr = 4
+
+-- fields in the table's order
+abbrev pub pcrOrder : List ℕ
+pcrOrder = 0 ∷ 1 ∷ 2 ∷ 3 ∷ 4 ∷ 5 ∷ 6 ∷ []
+
+abbrev pub binOrder : List ℕ
+binOrder = 0 ∷ 1 ∷ 2 ∷ 3 ∷ 4 ∷ 5 ∷ []
+
+abbrev pub order : Tag → List ℕ
+order Pcr = pcrOrder
+order Hbr = binOrder
+order Sbr = binOrder
 
 -- a name's count byte stands in front of it
 abbrev pub width : Form → ℕ

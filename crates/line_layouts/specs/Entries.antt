@@ -5,15 +5,15 @@
 --   Meaning   what a line or a record says: its tag and its entries, in the order of its columns
 --   entryOf   what a field of this code says, its bytes in a source
 --   Within    the bytes that a field names are there
---   present   the entries without the missing ones at their end
+--   present   the entries without the missing ones at their end, but for those that must stand
 -- Assumes nothing.
 use mathlib.Core.Path.{_≡_}
 use mathlib.Core.Bool.{Bool, true, false}
 use mathlib.Core.List.{List, [], _∷_, map}
-use Prim.Native.Nat.{ℕ, _+_, _≤_, _<_}
+use Prim.Native.Nat.{ℕ, zero, suc, _+_, _-_, _≤_, _<_}
 use lib.ListN.{length, getD, take}
 use Rattle.output.specs.Placed.{part}
-use Rattle.bodies.specs.declared.Name.{Name}
+use Rattle.values.specs.declared.Name.{Name}
 use Rattle.line_layouts.specs.declared.Tag.{Tag}
 use Rattle.line_layouts.specs.declared.Said.{Said}
 use Rattle.line_layouts.specs.declared.Said.the-variants as said
@@ -71,13 +71,15 @@ isMissing said.Missing = true
 isMissing (said.Number n) = false
 isMissing (said.Text name) = false
 
-abbrev pub kept : Entry → List Entry → List Entry
-kept Missing [] = []
-kept Missing (e ∷ es) = Missing ∷ e ∷ es
-kept (Number n) es = Number n ∷ es
-kept (Text bytes) es = Text bytes ∷ es
+abbrev pub kept : ℕ → Entry → List Entry → List Entry
+kept zero Missing [] = []
+kept zero Missing (e ∷ es) = Missing ∷ e ∷ es
+kept zero (Number n) es = Number n ∷ es
+kept zero (Text bytes) es = Text bytes ∷ es
+kept (suc k) e es = e ∷ es
 
--- Written, trailing missing fields dropped; Read, the record stops after its last present field
-abbrev pub present : List Entry → List Entry
-present [] = []
-present (e ∷ es) = kept e (present es)
+-- Written, trailing missing fields dropped; Read, the record stops after its last present field. The first argument:
+-- how many fields must stand, present or not
+abbrev pub present : ℕ → List Entry → List Entry
+present k [] = []
+present k (e ∷ es) = kept k e (present (k - 1) es)

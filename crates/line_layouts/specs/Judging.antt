@@ -2,7 +2,9 @@
 --
 --   saying, refusing   as this code holds them
 --   Judging, saidIn    the same with the bytes of the source: a meaning, or an answer
+--   Taken              taken apart by this code: what it means, by bytes that are there
 -- Assumes nothing.
+use mathlib.Core.Path.{_≡_}
 use mathlib.Core.List.{List, [], _∷_}
 use Prim.Native.Nat.{ℕ}
 use Rattle.answers.specs.declared.Answer.{Answer}
@@ -11,7 +13,7 @@ use Rattle.line_layouts.specs.declared.Line.{Line}
 use Rattle.line_layouts.specs.declared.Fault.{Fault}
 use Rattle.line_layouts.specs.declared.Fault.the-variants.{None, Found}
 use Rattle.line_layouts.specs.declared.Judged.{Judged}
-use Rattle.line_layouts.specs.Entries.{Meaning, noField, meaningOf}
+use Rattle.line_layouts.specs.Entries.{Meaning, noField, meaningOf, AllWithin}
 
 abbrev pub noLine : Line
 noLine =
@@ -33,3 +35,7 @@ byFault m (Found answer) = Faulty answer
 
 abbrev pub saidIn : List ℕ → Judged → Judging
 saidIn source j = byFault (meaningOf source (j .line)) (j .fault)
+
+pub record Taken (s : List ℕ) (m : Judging) (j : Judged) : Type 0 where
+  pub means : saidIn s j ≡ m
+  pub there : j .fault ≡ None → AllWithin s (j .line)

@@ -23,7 +23,9 @@ use Rattle.line_layouts.specs.declared.Column.{Column}
 use Rattle.line_layouts.specs.declared.Layout.{Layout}
 use Rattle.line_layouts.specs.declared.Layout.the-variants as layout
 use Rattle.line_layouts.specs.declared.Line.{Line}
+use Rattle.line_layouts.specs.Arranging.{arranged}
 use Rattle.line_layouts.specs.Columns.{separator, lineFeed, tagText, countType, subOf, columns, noColumn, width}
+use Rattle.line_layouts.specs.Columns.{bar, order}
 use Rattle.line_layouts.specs.Entries.{Entry, Missing, Number, Text, Meaning, entryOf, entriesOf, noField}
 use Rattle.line_layouts.specs.Entries.{AllWithin, present}
 
@@ -33,10 +35,10 @@ entryText Missing = []
 entryText (Number n) = digits n
 entryText (Text bytes) = bytes
 
--- Missing: a number of all ones, so 255 for head and site; P/F a space; name of length 0
+-- Missing: a number of all ones; P/F a space; name of length 0
 abbrev pub missingValue : Form → ℕ
-missingValue U1 = 4_294_967_295
-missingValue U2 = 4_294_967_295
+missingValue U1 = 255
+missingValue U2 = 65_535
 missingValue U4 = 4_294_967_295
 missingValue C1 = code " "
 missingValue Cn = 0
@@ -50,26 +52,26 @@ isName Cn = true
 
 -- a C*n field is a count byte and that many bytes
 abbrev pub countedName : Order → List ℕ → List ℕ
-countedName order bytes = written order (width Cn) (length bytes) ++ bytes
+countedName ends bytes = written ends (width Cn) (length bytes) ++ bytes
 
 abbrev pub counted : Order → Form → List ℕ → List ℕ
-counted order form bytes = cond (isName form) (countedName order bytes) bytes
+counted ends form bytes = cond (isName form) (countedName ends bytes) bytes
 
 abbrev pub stored : Order → Form → Entry → List ℕ
-stored order form Missing = written order (width form) (missingValue form)
-stored order form (Number n) = written order (width form) n
-stored order form (Text bytes) = counted order form bytes
+stored ends form Missing = written ends (width form) (missingValue form)
+stored ends form (Number n) = written ends (width form) n
+stored ends form (Text bytes) = counted ends form bytes
 
 -- behind a field stands the separator, behind the last one LF
-abbrev pub mark : Bool → ℕ
-mark last = cond last lineFeed separator
+abbrev pub mark : ℕ → Bool → ℕ
+mark sep last = cond last lineFeed sep
 
-abbrev pub marked : Entry → Bool → List ℕ
-marked e last = entryText e ++ mark last ∷ []
+abbrev pub marked : ℕ → Entry → Bool → List ℕ
+marked sep e last = entryText e ++ mark sep last ∷ []
 
 abbrev pub fieldBytes : Layout → Form → Entry → Bool → List ℕ
-fieldBytes layout.Text form e last = marked e last
-fieldBytes (layout.Record order) form e last = stored order form e
+fieldBytes (layout.Text sep) form e last = marked sep e last
+fieldBytes (layout.Record ends) form e last = stored ends form e
 
 abbrev pub isLast : List Entry → Bool
 isLast [] = true
@@ -80,45 +82,73 @@ laid layout [] es = []
 laid layout (c ∷ cs) [] = []
 laid layout (c ∷ cs) (e ∷ es) = fieldBytes layout (c .0) e (isLast es) ++ laid layout cs es
 
--- the fields in the table's order, the trailing missing ones dropped
+-- a line's fields go in the order of the text, a record's in its own
+abbrev pub inOrder : {A : Type 0} → Layout → Tag → A → List A → List A
+inOrder (layout.Text sep) tag none xs = arranged none (order tag) xs
+inOrder (layout.Record ends) tag none xs = xs
+
+-- a record has the fields before its bar, a line none that it must show
+abbrev pub barIn : Layout → Tag → ℕ
+barIn (layout.Text sep) tag = 0
+barIn (layout.Record ends) tag = bar tag
+
+-- the fields in their order, the trailing missing ones dropped
 abbrev pub fieldsOf : Layout → Meaning → List ℕ
-fieldsOf layout m = laid layout (columns (m .tag)) (present (m .entries))
+fieldsOf layout m =
+    laid layout (inOrder layout (m .tag) noColumn (columns (m .tag)))
+    (present (barIn layout (m .tag)) (inOrder layout (m .tag) Missing (m .entries)))
 
 -- `PCR:`, `HBR:`, `SBR:` before a line's fields; REC_LEN, REC_TYP, REC_SUB before a record's
 abbrev pub headOf : Layout → Tag → ℕ → List ℕ
-headOf layout.Text tag length = tagText tag
-headOf (layout.Record order) tag length = written order 2 length ++ countType ∷ subOf tag ∷ []
+headOf (layout.Text sep) tag length = tagText tag
+headOf (layout.Record ends) tag length = written ends 2 length ++ countType ∷ subOf tag ∷ []
 
 abbrev pub laidOut : Layout → Meaning → List ℕ
 laidOut layout m = headOf layout (m .tag) (length (fieldsOf layout m)) ++ fieldsOf layout m
 
 -- one line, its LF with it
+abbrev pub textBy : ℕ → Meaning → List ℕ
+textBy sep m = laidOut (layout.Text sep) m
+
+-- fields are separated by `|`
 abbrev pub textOf : Meaning → List ℕ
-textOf m = laidOut layout.Text m
+textOf m = textBy separator m
 
 abbrev pub recordOf : Order → Meaning → List ℕ
-recordOf order m = laidOut (layout.Record order) m
+recordOf ends m = laidOut (layout.Record ends) m
 
 -- ---- the parts of it that this code writes one by one
+
+-- the column of field number j
+unfoldable pub columnOf : Layout → Tag → ℕ → ℕ
+columnOf (layout.Text sep) tag j = getD (order tag) j 0
+columnOf (layout.Record ends) tag j = j
 
 -- field number j of n
 unfoldable pub nthBytes : Layout → List ℕ → Line → ℕ → ℕ → List ℕ
 nthBytes layout source line j n =
-    fieldBytes layout (getD (columns (line .tag)) j noColumn .0)
-    (entryOf source (getD (line .fields) j noField .said)) (eqb (j + 1) n)
+    let i = columnOf layout (line .tag) j in
+    fieldBytes layout (getD (columns (line .tag)) i noColumn .0)
+    (entryOf source (getD (line .fields) i noField .said)) (eqb (j + 1) n)
+
+-- what its fields say, in their order
+unfoldable pub entriesIn : Layout → List ℕ → Line → List Entry
+entriesIn layout source line = inOrder layout (line .tag) Missing (entriesOf source line)
 
 -- the fields from number j to before number n
 unfoldable pub restOf : Layout → List ℕ → Line → ℕ → ℕ → List ℕ
 restOf layout source line j n =
-    laid layout (drop j (columns (line .tag))) (drop j (take n (entriesOf source line)))
+    laid layout (drop j (inOrder layout (line .tag) noColumn (columns (line .tag))))
+    (drop j (take n (entriesIn layout source line)))
 
--- the number of fields up to the last present one, wherever the bytes that they name stand
-pub record Stops (line : Line) (n : ℕ) : Type 0 where
+-- the number of fields that are laid out, wherever the bytes that they name stand
+pub record Stops (layout : Layout) (line : Line) (n : ℕ) : Type 0 where
   pub few : n ≤ length (columns (line .tag))
-  pub all : (source : List ℕ) → present (entriesOf source line) ≡ take n (entriesOf source line)
+  pub all : (source : List ℕ)
+      → present (barIn layout (line .tag)) (entriesIn layout source line) ≡ take n (entriesIn layout source line)
 
 -- n fields are up to the last present one, and take size bytes
 pub record Sized (layout : Layout) (source : List ℕ) (line : Line) (n size : ℕ) : Type 0 where
   pub there : AllWithin source line
-  pub stops : Stops line n
+  pub stops : Stops layout line n
   pub is : size ≡ length (restOf layout source line 0 n)

@@ -1,5 +1,7 @@
+pub mod Arranging
 pub mod Columns
-pub mod Names
 pub mod Entries
+pub mod Names
 pub mod Layouts
+pub mod Fitting
 pub mod Judging

@@ -1,11 +1,13 @@
 // The tables of count lines.
 use super::Column;
+use super::Flag;
 use super::Form;
 use super::Tag;
 ghost use mathlib.Core.Path.{_≡_};
 ghost use Prim.Native.Nat.{_≤_, _<_};
 ghost use lib.ListN.{length, getD};
-ghost use Rattle.line_layouts.specs.Columns.{pcrColumns, binColumns, subOf, columns, noColumn, width};
+ghost use Rattle.line_layouts.specs.Columns.{pcrColumns, binColumns, subOf, columns, noColumn, width, bar};
+ghost use Rattle.line_layouts.specs.Columns.{pcrOrder, binOrder, order};
 
 pub const SEPARATOR: u8 = b'|';
 
@@ -22,24 +24,29 @@ const MOST_OPTIONAL: u32 = 4294967294;
 
 // head, site, parts, then retest, abort, good, functional
 const PCR: [Column; 7] = [
-    Column(Form::U1, 254, false),
-    Column(Form::U1, 255, false),
-    Column(Form::U4, MOST_COUNT, true),
-    Column(Form::U4, MOST_OPTIONAL, false),
-    Column(Form::U4, MOST_OPTIONAL, false),
-    Column(Form::U4, MOST_OPTIONAL, false),
-    Column(Form::U4, MOST_OPTIONAL, false),
+    Column(Form::U1, 254, false, Flag::Own),
+    Column(Form::U1, 255, false, Flag::Beside),
+    Column(Form::U4, MOST_COUNT, true, Flag::Never),
+    Column(Form::U4, MOST_OPTIONAL, false, Flag::Own),
+    Column(Form::U4, MOST_OPTIONAL, false, Flag::Own),
+    Column(Form::U4, MOST_OPTIONAL, false, Flag::Own),
+    Column(Form::U4, MOST_OPTIONAL, false, Flag::Own),
 ];
 
 // head, site, bin, count, then P/F and name
 const BIN: [Column; 6] = [
-    Column(Form::U1, 254, false),
-    Column(Form::U1, 255, false),
-    Column(Form::U2, 32767, true),
-    Column(Form::U4, MOST_COUNT, true),
-    Column(Form::C1, 1, false),
-    Column(Form::Cn, 255, false),
+    Column(Form::U1, 254, false, Flag::Own),
+    Column(Form::U1, 255, false, Flag::Beside),
+    Column(Form::U2, 32767, true, Flag::Never),
+    Column(Form::U4, MOST_COUNT, true, Flag::Never),
+    Column(Form::C1, 1, false, Flag::Own),
+    Column(Form::Cn, 255, false, Flag::Own),
 ];
+
+// The columns of a line, in the order of the text.
+const PCR_ORDER: [usize; 7] = [0, 1, 2, 3, 4, 5, 6];
+
+const BIN_ORDER: [usize; 6] = [0, 1, 2, 3, 4, 5];
 
 pub fn column_count(tag: Tag) -> usize
     ensures { λ r. ⌜ (r ≡ length (columns tag)) × (r ≤ 7) ⌝ }
@@ -73,6 +80,43 @@ pub fn column_at(tag: Tag, j: usize) -> Column
         Tag::Pcr => pcr_column(j),
         Tag::Hbr => bin_column(j),
         Tag::Sbr => bin_column(j),
+    }
+}
+
+// How many fields a record must have.
+pub fn bar_of(tag: Tag) -> usize
+    ensures { λ r. ⌜ r ≡ bar tag ⌝ }
+{
+    match tag {
+        Tag::Pcr => 3,
+        Tag::Hbr => 4,
+        Tag::Sbr => 4,
+    }
+}
+
+fn pcr_order(j: usize) -> usize
+    requires { ⌜ j < 7 ⌝ }
+    ensures { λ r. ⌜ r ≡ getD pcrOrder j 0 ⌝ }
+{
+    PCR_ORDER[j]
+}
+
+fn bin_order(j: usize) -> usize
+    requires { ⌜ j < 6 ⌝ }
+    ensures { λ r. ⌜ r ≡ getD binOrder j 0 ⌝ }
+{
+    BIN_ORDER[j]
+}
+
+// The column of field number j of a line.
+pub fn order_at(tag: Tag, j: usize) -> usize
+    requires { ⌜ j < length (columns tag) ⌝ }
+    ensures { λ r. ⌜ r ≡ getD (order tag) j 0 ⌝ }
+{
+    match tag {
+        Tag::Pcr => pcr_order(j),
+        Tag::Hbr => bin_order(j),
+        Tag::Sbr => bin_order(j),
     }
 }
 

@@ -7,15 +7,18 @@ use super::Said;
 use super::Tag;
 use super::columns::COUNT_TYPE;
 use super::columns::LINE_FEED;
-use super::columns::SEPARATOR;
+use super::columns::bar_of;
 use super::columns::column_at;
 use super::columns::column_count;
+use super::columns::order_at;
 use super::columns::sub_of;
 use super::columns::width_of;
+use super::forms::is_name;
+use super::forms::missing_value;
 use answers::Answer;
-use bodies::Name;
 use numbers::Order;
 use output::Written;
+use values::Name;
 ghost use mathlib.Core.Path.{_≡_};
 ghost use Prim.Native.Nat.{_+_, _-_, _*_, _≤_, _<_};
 ghost use mathlib.Core.List.{[], _∷_};
@@ -23,9 +26,11 @@ ghost use lib.ListN.{length, getD};
 ghost use Rattle.numbers.specs.Numbers.{written};
 ghost use Rattle.output.specs.Placed.{Put, Room, outcome, placedAt};
 ghost use Rattle.line_layouts.specs.Columns.{tagText, columns, width};
-ghost use Rattle.line_layouts.specs.Entries.{named, entryOf, meaningOf, noField, isMissing, Within, AllWithin, Nth};
-ghost use Rattle.line_layouts.specs.Layouts.{entryText, missingValue, isName, countedName, counted, stored, mark};
-ghost use Rattle.line_layouts.specs.Layouts.{marked, nthBytes, restOf, Stops, Sized, headOf, laidOut};
+ghost use Rattle.line_layouts.specs.Entries.{named, entryOf, meaningOf, noField, isMissing, Within, AllWithin};
+ghost use Rattle.line_layouts.specs.Entries.{Nth};
+ghost use Rattle.line_layouts.specs.Layouts.{entryText, countedName, counted, stored, mark};
+ghost use Rattle.line_layouts.specs.Layouts.{marked, barIn, columnOf, nthBytes, restOf, Stops, Sized, headOf};
+ghost use Rattle.line_layouts.specs.Layouts.{laidOut};
 
 // An entry in a line.
 fn put_entry(out: &mut [u8], source: &[u8], said: Said) -> usize
@@ -54,18 +59,6 @@ fn entry_size(source: &[u8], said: Said) -> usize
     }
 }
 
-fn missing_value(form: Form) -> u32
-    ensures { λ r. ⌜ r ≡ missingValue form ⌝ }
-{
-    match form {
-        Form::U1 => 4294967295,
-        Form::U2 => 4294967295,
-        Form::U4 => 4294967295,
-        Form::C1 => 32,
-        Form::Cn => 0,
-    }
-}
-
 // A number in the width of a type: its low bytes.
 fn put_number(out: &mut [u8], order: Order, form: Form, n: u32) -> usize
     requires { ⌜ Room (written order (width form) n) (now out) ⌝ }
@@ -82,18 +75,6 @@ fn put_number(out: &mut [u8], order: Order, form: Form, n: u32) -> usize
     }
     numbers::put_u1(order, out, (n % 256) as u8);
     1
-}
-
-pub fn is_name(form: Form) -> bool
-    ensures { λ r. ⌜ r ≡ isName form ⌝ }
-{
-    match form {
-        Form::U1 => false,
-        Form::U2 => false,
-        Form::U4 => false,
-        Form::C1 => false,
-        Form::Cn => true,
-    }
 }
 
 // A name with its count byte.
@@ -159,19 +140,20 @@ fn stored_size(order: Order, form: Form, source: &[u8], said: Said) -> usize
     }
 }
 
-fn mark_of(last: bool) -> u8
-    ensures { λ r. ⌜ r ≡ mark last ⌝ }
+fn mark_of(sep: u8, last: bool) -> u8
+    ensures { λ r. ⌜ r ≡ mark sep last ⌝ }
 {
-    if last { LINE_FEED } else { SEPARATOR }
+    if last { LINE_FEED } else { sep }
 }
 
 // An entry in a line, and the byte behind it.
-fn put_marked(out: &mut [u8], source: &[u8], said: Said, last: bool) -> usize
-    requires { ⌜ Within (now source) said × Room (marked (entryOf (now source) said) last) (now out) ⌝ }
-    ensures { λ r. ⌜ Put (marked (entryOf (now (source .entry)) said) last) (now (out .entry)) r (now (out .exit)) ⌝ }
+fn put_marked(out: &mut [u8], source: &[u8], said: Said, sep: u8, last: bool) -> usize
+    requires { ⌜ Within (now source) said × Room (marked sep (entryOf (now source) said) last) (now out) ⌝ }
+    ensures { λ r. ⌜ Put (marked sep (entryOf (now (source .entry)) said) last) (now (out .entry)) r
+        (now (out .exit)) ⌝ }
 {
     let n = put_entry(out, source, said);
-    n + output::put_byte(&mut out[n..], mark_of(last))
+    n + output::put_byte(&mut out[n..], mark_of(sep, last))
 }
 
 pub fn said_at(line: Line, j: usize) -> Said
@@ -183,17 +165,29 @@ pub fn said_at(line: Line, j: usize) -> Said
     field.said
 }
 
+// The column of field number j: a line's fields go in the order of the text.
+fn column_of(layout: Layout, tag: Tag, j: usize) -> usize
+    requires { ⌜ j < length (columns tag) ⌝ }
+    ensures { λ r. ⌜ r ≡ columnOf layout tag j ⌝ }
+{
+    match layout {
+        Layout::Text(_) => order_at(tag, j),
+        Layout::Record(_) => j,
+    }
+}
+
 // Field number j of the n that are laid out.
 fn put_nth(out: &mut [u8], layout: Layout, source: &[u8], line: Line, j: usize, n: usize) -> usize
     requires { ⌜ Nth (now source) line j n × Room (nthBytes layout (now source) line j n) (now out) ⌝ }
     ensures { λ r. ⌜ Put (nthBytes layout (now (source .entry)) line j n) (now (out .entry)) r (now (out .exit)) ⌝ }
 {
-    let said = said_at(line, j);
     let tag = line.tag;
-    let column = column_at(tag, j);
+    let i = column_of(layout, tag, j);
+    let said = said_at(line, i);
+    let column = column_at(tag, i);
     let form = column.0;
     match layout {
-        Layout::Text => put_marked(out, source, said, j + 1 == n),
+        Layout::Text(sep) => put_marked(out, source, said, sep, j + 1 == n),
         Layout::Record(order) => put_stored(out, order, form, source, said),
     }
 }
@@ -202,12 +196,13 @@ fn nth_size(layout: Layout, source: &[u8], line: Line, j: usize, n: usize) -> us
     requires { ⌜ Nth (now source) line j n ⌝ }
     ensures { λ r. ⌜ (r ≡ length (nthBytes layout (now (source .entry)) line j n)) × (r ≤ 256) ⌝ }
 {
-    let said = said_at(line, j);
     let tag = line.tag;
-    let column = column_at(tag, j);
+    let i = column_of(layout, tag, j);
+    let said = said_at(line, i);
+    let column = column_at(tag, i);
     let form = column.0;
     match layout {
-        Layout::Text => entry_size(source, said) + 1,
+        Layout::Text(_) => entry_size(source, said) + 1,
         Layout::Record(order) => stored_size(order, form, source, said),
     }
 }
@@ -255,17 +250,27 @@ pub fn is_missing(said: Said) -> bool
     }
 }
 
-// How many fields there are up to the last present one.
-fn present_count(line: Line) -> usize
+// How many fields a record must have; a line may show none.
+fn bar_in(layout: Layout, tag: Tag) -> usize
+    ensures { λ r. ⌜ r ≡ barIn layout tag ⌝ }
+{
+    match layout {
+        Layout::Text(_) => 0,
+        Layout::Record(_) => bar_of(tag),
+    }
+}
+
+// How many fields are laid out: up to the last present one, and those that must stand.
+fn present_count(layout: Layout, line: Line) -> usize
     requires { ⌜ length (line .fields) ≡ 7 ⌝ }
-    ensures { λ r. ⌜ Stops line r ⌝ }
+    ensures { λ r. ⌜ Stops layout line r ⌝ }
 {
     let tag = line.tag;
     let count = column_count(tag);
-    let mut n: usize = 0;
-    let mut j: usize = 0;
+    let mut n = bar_in(layout, tag);
+    let mut j = n;
     while j < count {
-        if !is_missing(said_at(line, j)) {
+        if !is_missing(said_at(line, column_of(layout, tag, j))) {
             n = j + 1;
         }
         j += 1;
@@ -318,7 +323,7 @@ fn put_head(out: &mut [u8], layout: Layout, tag: Tag, size: u32) -> usize
     ensures { λ r. ⌜ Put (headOf layout tag size) (now (out .entry)) r (now (out .exit)) ⌝ }
 {
     match layout {
-        Layout::Text => put_tag(out, tag),
+        Layout::Text(_) => put_tag(out, tag),
         Layout::Record(order) => put_header(out, order, tag, size),
     }
 }
@@ -341,7 +346,7 @@ pub fn place(out: &mut [u8], at: usize, layout: Layout, source: &[u8], line: Lin
     ensures { λ r. ⌜ outcome r (now (out .exit))
         ≡ placedAt (laidOut layout (meaningOf (now (source .entry)) line)) (now (out .entry)) at ⌝ }
 {
-    let n = present_count(line);
+    let n = present_count(layout, line);
     let size = fields_size(layout, source, line, n);
     if out.len() < at {
         return Written::Refused(Answer::OutputTooShort);

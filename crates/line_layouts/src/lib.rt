@@ -1,12 +1,13 @@
 // How count lines and their records are laid out, field after field: document 01, "Count lines".
 pub mod columns;
+pub mod forms;
 pub mod judging;
 pub mod laying;
 pub mod names;
 
 use answers::Answer;
-use bodies::Name;
 use numbers::Order;
+use values::Name;
 
 // The three count lines.
 pub enum Tag {
@@ -24,9 +25,17 @@ pub enum Form {
     Cn,
 }
 
-// A field's type, the most that its text may hold, and whether it is required: for a number the greatest value, for
-// P/F and a name the bytes that are kept.
-pub struct Column(pub Form, pub u32, pub bool);
+// How a field of a record is missing: never; by a value of its own; or with the field before it, beside which it is
+// stored as missing and is else a number as any other.
+pub enum Flag {
+    Never,
+    Own,
+    Beside,
+}
+
+// A field's type, the most that its text may hold, whether text must give it, and how a record leaves it out. The most
+// is for a number the greatest value, for P/F and a name the bytes that are kept.
+pub struct Column(pub Form, pub u32, pub bool, pub Flag);
 
 // What a field says: P/F and a name are text, told by its place and its length in a source.
 pub enum Said {
@@ -45,10 +54,16 @@ pub struct Line {
     pub fields: [Field; 7],
 }
 
-// How fields are laid out: as the text of a line, or as a record in a byte order.
+// How fields are laid out: as the text of a line, with a byte between them, or as a record in a byte order.
 pub enum Layout {
-    Text,
+    Text(u8),
     Record(Order),
+}
+
+// Which line a text begins, or a kind of record has.
+pub enum Tagging {
+    Known(Tag),
+    Other,
 }
 
 // Whether something stands against a line.

@@ -1,5 +1,4 @@
 // The bytes of a name: document 01, "Count lines", Written, names.
-use super::columns::SEPARATOR;
 ghost use mathlib.Core.Path.{_≡_};
 ghost use Prim.Native.Nat.{_+_, _≤_};
 ghost use lib.ListN.{length};
@@ -7,8 +6,8 @@ ghost use Rattle.prelude.specs.Each.{each};
 ghost use Rattle.output.specs.Placed.{part};
 ghost use Rattle.line_layouts.specs.Names.{allowed};
 
-fn is_allowed(b: u8) -> bool
-    ensures { λ r. ⌜ r ≡ allowed b ⌝ }
+fn is_allowed(sep: u8, b: u8) -> bool
+    ensures { λ r. ⌜ r ≡ allowed sep b ⌝ }
 {
     if b < 32 {
         return false;
@@ -16,17 +15,17 @@ fn is_allowed(b: u8) -> bool
     if 126 < b {
         return false;
     }
-    b != SEPARATOR
+    b != sep
 }
 
 // Whether each of `len` bytes of a source, from place `at` on, may stand in a name.
-pub fn part_allowed(source: &[u8], at: usize, len: usize) -> bool
+pub fn part_allowed(sep: u8, source: &[u8], at: usize, len: usize) -> bool
     requires { ⌜ at + len ≤ length (now source) ⌝ }
-    ensures { λ r. ⌜ r ≡ each allowed (part at len (now (source .entry))) ⌝ }
+    ensures { λ r. ⌜ r ≡ each (allowed sep) (part at len (now (source .entry))) ⌝ }
 {
     let mut i: usize = 0;
     while i < len {
-        if !is_allowed(source[at + i]) {
+        if !is_allowed(sep, source[at + i]) {
             return false;
         }
         i += 1;

@@ -1,1 +1,5 @@
+pub mod Puts
+pub mod Records
+pub mod Places
 pub mod Judges
+pub mod Agrees

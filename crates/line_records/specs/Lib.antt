@@ -1,1 +1,4 @@
+pub mod Walks
 pub mod Records
+pub mod Places
+pub mod Laws

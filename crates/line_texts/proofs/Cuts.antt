@@ -12,7 +12,7 @@ use lib.ListN.{length, getD, drop, length-drop, drop-of-length-le}
 use lib.Seq.{drop-cons, take-suc, getD-drop}
 use Rattle.output.specs.Placed.{part}
 use Rattle.line_layouts.specs.declared.Column.{Column}
-use Rattle.line_layouts.specs.Columns.{separator, noColumn}
+use Rattle.line_layouts.specs.Columns.{noColumn}
 use Rattle.line_texts.specs.Pieces.{onto, split, first, rest, pieceFits, entryIn, isNone, fieldsFit, entriesIn}
 use Rattle.line_texts.specs.Pieces.{left, Ends, Next}
 
@@ -32,13 +32,13 @@ before-none (b ∷ bs) ps = rw (before-none bs ps)
 
 -- ---- the walk to the end of a piece, at place i
 
-module _ (s : List ℕ) (from i : ℕ) where
+module _ (sep : ℕ) (s : List ℕ) (from i : ℕ) where
   -- what has been passed holds no separator
   abbrev pub Passed : Type 0
-  Passed = split (drop from s) ≡ before (part from (i - from) s) (split (drop i s))
+  Passed = split sep (drop from s) ≡ before (part from (i - from) s) (split sep (drop i s))
 
-  pub passed-on : from ≤ i → i < length s → (getD s i 0 ≡ separator → ⊥) → Passed
-      → split (drop from s) ≡ before (part from (i + 1 - from) s) (split (drop (i + 1) s))
+  pub passed-on : from ≤ i → i < length s → (getD s i 0 ≡ sep → ⊥) → Passed
+      → split sep (drop from s) ≡ before (part from (i + 1 - from) s) (split sep (drop (i + 1) s))
   unfolding split
   passed-on h g other p =
       let more : i + 1 - from ≡ suc (i - from) = omega arith in
@@ -47,35 +47,35 @@ module _ (s : List ℕ) (from i : ℕ) where
       let byte : getD (drop from s) (i - from) 0 ≡ getD s i 0 =
       getD-drop from s (i - from) 0 ∙ ap (λ (k : ℕ). getD s k 0) place in
       rw (more, take-suc (drop from s) (i - from) 0 inside, byte, before-more, add-one i)
-      (rw (drop-cons s i 0 g, ne-eqb (getD s i 0) separator other) at p)
+      (rw (drop-cons s i 0 g, ne-eqb (getD s i 0) sep other) at p)
 
-  pub passed-separator : i < length s → getD s i 0 ≡ separator → Passed
-      → split (drop from s) ≡ part from (i - from) s ∷ left (ltb i (length s)) (i + 1) s
+  pub passed-separator : i < length s → getD s i 0 ≡ sep → Passed
+      → split sep (drop from s) ≡ part from (i - from) s ∷ left sep (ltb i (length s)) (i + 1) s
   unfolding split
   passed-separator g is p =
       rw (lt-ltb i (length s) g, add-one i)
-      (rw (drop-cons s i 0 g, eq-eqb (getD s i 0) separator is, before-none) at p)
+      (rw (drop-cons s i 0 g, eq-eqb (getD s i 0) sep is, before-none) at p)
 
-  pub passed-all : length s ≤ i → Passed → split (drop from s) ≡ part from (i - from) s ∷ left (ltb i (length s))
-      (i + 1) s
+  pub passed-all : length s ≤ i → Passed
+      → split sep (drop from s) ≡ part from (i - from) s ∷ left sep (ltb i (length s)) (i + 1) s
   unfolding split
   passed-all h p = rw (le-ltb i (length s) h) (rw (drop-of-length-le s {i = i} h, before-none) at p)
 
-pub passed-none : (s : List ℕ) (from : ℕ) → Passed s from from
-passed-none s from =
+pub passed-none : (sep : ℕ) (s : List ℕ) (from : ℕ) → Passed sep s from from
+passed-none sep s from =
     let none : from - from ≡ 0 = omega arith in
     rw none
 
 -- ---- the next piece
 
-module _ (s : List ℕ) (from : ℕ) (more : Bool) where
+module _ (sep : ℕ) (s : List ℕ) (from : ℕ) (more : Bool) where
   pub next-none : from ≤ length s → more ≡ false
-      → Next s from more (record { at = from; len = 0; next = from; more = false })
+      → Next sep s from more (record { at = from; len = 0; next = from; more = false })
   next-none h e = rw e record { there = omega arith; is = refl; on = h; behind = refl }
 
-  module _ (to : ℕ) (ends : Ends s from to) (e : more ≡ true) where
+  module _ (to : ℕ) (ends : Ends sep s from to) (e : more ≡ true) where
     pub next-more : to < length s
-        → Next s from more (record { at = from; len = to - from; next = to + 1; more = true })
+        → Next sep s from more (record { at = from; len = to - from; next = to + 1; more = true })
     next-more h =
         rw e record {
           there = omega (arith, ends .low, ends .high);
@@ -85,7 +85,7 @@ module _ (s : List ℕ) (from : ℕ) (more : Bool) where
         }
 
     pub next-last : length s ≤ to
-        → Next s from more (record { at = from; len = to - from; next = to; more = false })
+        → Next sep s from more (record { at = from; len = to - from; next = to; more = false })
     next-last h =
         rw e record {
           there = omega (arith, ends .low, ends .high);
@@ -96,21 +96,21 @@ module _ (s : List ℕ) (from : ℕ) (more : Bool) where
 
 -- ---- columns, at column j
 
-module _ (cs : List Column) (j : ℕ) (ps : List (List ℕ)) where
+module _ (sep : ℕ) (cs : List Column) (j : ℕ) (ps : List (List ℕ)) where
   module _ (h : j < length cs) where
-    pub fields-no : pieceFits (getD cs j noColumn) (first ps) ≡ false → fieldsFit (drop j cs) ps ≡ false
+    pub fields-no : pieceFits sep (getD cs j noColumn) (first ps) ≡ false → fieldsFit sep (drop j cs) ps ≡ false
     unfolding fieldsFit
     fields-no e = rw (drop-cons cs j noColumn h, e)
 
-    pub fields-on : pieceFits (getD cs j noColumn) (first ps) ≡ true
-        → fieldsFit (drop j cs) ps ≡ fieldsFit (drop (j + 1) cs) (rest ps)
+    pub fields-on : pieceFits sep (getD cs j noColumn) (first ps) ≡ true
+        → fieldsFit sep (drop j cs) ps ≡ fieldsFit sep (drop (j + 1) cs) (rest ps)
     unfolding fieldsFit
     fields-on e = rw (drop-cons cs j noColumn h, e, add-one j)
 
-    pub fields-fits : fieldsFit (drop j cs) ps ≡ true → pieceFits (getD cs j noColumn) (first ps) ≡ true
-    fields-fits e = go (pieceFits (getD cs j noColumn) (first ps)) refl
+    pub fields-fits : fieldsFit sep (drop j cs) ps ≡ true → pieceFits sep (getD cs j noColumn) (first ps) ≡ true
+    fields-fits e = go (pieceFits sep (getD cs j noColumn) (first ps)) refl
       where
-        go : (t : Bool) → pieceFits (getD cs j noColumn) (first ps) ≡ t → t ≡ true
+        go : (t : Bool) → pieceFits sep (getD cs j noColumn) (first ps) ≡ t → t ≡ true
         go true f = refl
         go false f = sym (fields-no f) ∙ e
 
@@ -119,7 +119,7 @@ module _ (cs : List Column) (j : ℕ) (ps : List (List ℕ)) where
     unfolding entriesIn
     entries-on = rw (drop-cons cs j noColumn h, add-one j)
 
-  pub fields-end : length cs ≤ j → fieldsFit (drop j cs) ps ≡ isNone ps
+  pub fields-end : length cs ≤ j → fieldsFit sep (drop j cs) ps ≡ isNone ps
   unfolding fieldsFit
   fields-end h = rw (drop-of-length-le cs {i = j} h)
 
@@ -131,16 +131,16 @@ onto-some : (b : ℕ) (ps : List (List ℕ)) → isNone (onto b ps) ≡ false
 onto-some b [] = refl
 onto-some b (p ∷ ps) = refl
 
-split-some : (s : List ℕ) → isNone (split s) ≡ false
+split-some : (sep : ℕ) (s : List ℕ) → isNone (split sep s) ≡ false
 unfolding split
-split-some [] = refl
-split-some (b ∷ bs) = go (eqb b separator) refl
+split-some sep [] = refl
+split-some sep (b ∷ bs) = go (eqb b sep) refl
   where
-    go : (t : Bool) → eqb b separator ≡ t → isNone (split (b ∷ bs)) ≡ false
+    go : (t : Bool) → eqb b sep ≡ t → isNone (split sep (b ∷ bs)) ≡ false
     go true e = rw e
-    go false e = rw e (onto-some b (split bs))
+    go false e = rw e (onto-some b (split sep bs))
 
 -- text has at least one piece, so what is left is none exactly where there are no more
-pub left-none : (more : Bool) (k : ℕ) (s : List ℕ) → isNone (left more k s) ≡ not more
-left-none false k s = refl
-left-none true k s = split-some (drop k s)
+pub left-none : (sep : ℕ) (more : Bool) (k : ℕ) (s : List ℕ) → isNone (left sep more k s) ≡ not more
+left-none sep false k s = refl
+left-none sep true k s = split-some sep (drop k s)

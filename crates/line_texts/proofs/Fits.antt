@@ -22,7 +22,8 @@ use Rattle.line_layouts.specs.declared.Said.the-variants as said
 use Rattle.line_layouts.specs.Columns.{columns}
 use Rattle.line_layouts.specs.Entries.{Missing, Text}
 use Rattle.line_layouts.specs.declared.Column.{Column}
-use Rattle.line_texts.specs.Pieces.{isNumber, numberFits, numberIn, letterFits, valueFits, valueIn, pieceFits}
+use Rattle.line_layouts.specs.Fitting.{isNumber, letterFits}
+use Rattle.line_texts.specs.Pieces.{numberFits, numberIn, valueFits, valueIn, pieceFits}
 use Rattle.line_texts.specs.Pieces.{entryIn, numberSaid, Holds, short}
 
 -- ---- P/F
@@ -48,13 +49,13 @@ module _ (s : List ℕ) (some : length s ≡ 0 → ⊥) where
 
 -- ---- any column
 
-module _ (c : Column) where
-  pub piece-empty : (s : List ℕ) → length s ≡ 0 → pieceFits c s ≡ not (c .2)
+module _ (sep : ℕ) (c : Column) where
+  pub piece-empty : (s : List ℕ) → length s ≡ 0 → pieceFits sep c s ≡ not (c .2)
   unfolding pieceFits
   piece-empty [] e = refl
   piece-empty (b ∷ bs) e = absurd (omega arith)
 
-  pub piece-value : (s : List ℕ) → (length s ≡ 0 → ⊥) → pieceFits c s ≡ valueFits c s
+  pub piece-value : (s : List ℕ) → (length s ≡ 0 → ⊥) → pieceFits sep c s ≡ valueFits sep c s
   unfolding pieceFits
   piece-value [] h = absurd (h refl)
   piece-value (b ∷ bs) h = refl

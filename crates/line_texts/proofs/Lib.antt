@@ -3,3 +3,4 @@ pub mod Cuts
 pub mod Fills
 pub mod Whole
 pub mod Canonical
+pub mod Tellings

@@ -7,24 +7,27 @@ use Prim.Native.Nat.{ℕ, _≤_, _<_}
 use native.Mathlib.Omega.{arith}
 use borrow.Author.Tests.{eq-eqb, ne-eqb}
 use lib.Dec.{eqb}
-use lib.ListN.{length, getD}
+use lib.ListN.{length, getD, drop}
 use Rattle.answers.specs.declared.Answer.the-variants.{NotACountLine}
 use Rattle.prelude.proofs.Never.{false-true}
-use Rattle.prelude.proofs.Both.{both-right}
+use Rattle.prelude.specs.Each.{each}
+use Rattle.prelude.proofs.Both.{both-left, both-right}
 use Rattle.line_layouts.specs.declared.Tag.{Tag}
 use Rattle.line_layouts.specs.declared.Tag.the-variants.{Pcr, Hbr, Sbr}
 use Rattle.line_layouts.specs.declared.Said.{Said}
 use Rattle.line_layouts.specs.declared.Said.the-variants as said
 use Rattle.line_layouts.specs.declared.Line.{Line}
-use Rattle.line_layouts.specs.Columns.{lineFeed, carriageReturn, tagText, columns}
-use Rattle.line_layouts.specs.Entries.{Missing, entryOf, entriesOf, noField, isMissing}
-use Rattle.line_layouts.specs.Judging.{refusing, Judging, Says}
-use Rattle.line_layouts.proofs.Laid.{said-at}
-use Rattle.line_layouts.proofs.Faults.{found-none}
+use Rattle.line_layouts.specs.declared.Column.{Column}
+use Rattle.line_layouts.specs.Columns.{lineFeed, carriageReturn, tagText, pcrColumns, binColumns, columns}
+use Rattle.line_layouts.specs.Entries.{Entry, Missing, entryOf, entriesOf, noField, isMissing}
+use Rattle.line_layouts.specs.Fitting.{isBeside, isNone, agree, sits}
+use Rattle.line_layouts.specs.Judging.{refusing, Judging, Says, Taken}
+use Rattle.line_layouts.proofs.Laid.{said-at, length-entries}
+use Rattle.line_layouts.proofs.Faults.{taken-refused}
 use Rattle.line_texts.specs.Pieces.{fieldsFit, entriesIn}
-use Rattle.line_texts.specs.declared.Tagging.the-variants.{Known, Other}
-use Rattle.line_texts.specs.Texts.{back, ending, starts, unbroken, tagOf, none, sitesFit, notALine}
-use Rattle.line_texts.specs.Texts.{fieldsMean, taggedMeans, contentMeans, Taken}
+use Rattle.line_layouts.specs.declared.Tagging.the-variants.{Known, Other}
+use Rattle.line_texts.specs.Texts.{back, ending, starts, unbroken, tagOf, notALine}
+use Rattle.line_texts.specs.Texts.{fieldsMean, taggedMeans, contentMeans}
 
 -- ---- its ending
 
@@ -136,7 +139,7 @@ module _ (s : List ℕ) where
 
 -- ---- head and site
 
-none-missing : (source : List ℕ) (f : Said) → none (entryOf source f) ≡ isMissing f
+none-missing : (source : List ℕ) (f : Said) → isNone (entryOf source f) ≡ isMissing f
 none-missing source said.Missing = refl
 none-missing source (said.Number n) = refl
 none-missing source (said.Text name) = refl
@@ -146,46 +149,82 @@ columns-two Pcr = omega arith
 columns-two Hbr = omega arith
 columns-two Sbr = omega arith
 
-module _ (source : List ℕ) (line : Line) (seven : length (line .fields) ≡ 7) (j : ℕ) (h : j < 2) where
-  pub none-at : none (getD (entriesOf source line) j Missing) ≡ isMissing (getD (line .fields) j noField .said)
-  none-at =
-      ap none (said-at source line seven j (omega (arith, columns-two (line .tag))))
-      ∙ none-missing source (getD (line .fields) j noField .said)
+-- columns none of which is beside another
+sits-apart : (last : Entry) (cs : List Column) (es : List Entry)
+    → each (λ (c : Column). not (isBeside (c .3))) cs ≡ true → sits last cs es ≡ true
+unfolding sits
+sits-apart last [] es e = refl
+sits-apart last (c ∷ cs) [] e = refl
+sits-apart last (c ∷ cs) (x ∷ es) e =
+    rw (
+      both-left (not (isBeside (c .3))) (each (λ (d : Column). not (isBeside (d .3))) cs) e,
+      sits-apart x cs es (both-right (not (isBeside (c .3))) (each (λ (d : Column). not (isBeside (d .3))) cs) e),
+    )
+
+-- head and site are the first two fields of each line
+sits-two : (tag : Tag) (a b : Entry) (es : List Entry)
+    → sits Missing (columns tag) (a ∷ b ∷ es) ≡ (agree (isNone a) (isNone b) && true)
+unfolding sits
+sits-two Pcr a b es = rw (sits-apart b (drop 2 pcrColumns) es refl)
+sits-two Hbr a b es = rw (sits-apart b (drop 2 binColumns) es refl)
+sits-two Sbr a b es = rw (sits-apart b (drop 2 binColumns) es refl)
+
+sits-first : (tag : Tag) (es : List Entry) → 2 ≤ length es
+    → sits Missing (columns tag) es ≡ (agree (isNone (getD es 0 Missing)) (isNone (getD es 1 Missing)) && true)
+sits-first tag [] h = absurd (omega arith)
+sits-first tag (a ∷ []) h = absurd (omega arith)
+sits-first tag (a ∷ b ∷ es) h = sits-two tag a b es
 
 module _ (source : List ℕ) (line : Line) (seven : length (line .fields) ≡ 7) where
+  none-at : (j : ℕ) → j < 2
+      → isNone (getD (entriesOf source line) j Missing) ≡ isMissing (getD (line .fields) j noField .said)
+  none-at j h =
+      ap isNone (said-at source line seven j (omega (arith, columns-two (line .tag))))
+      ∙ none-missing source (getD (line .fields) j noField .said)
+
   -- the two of them, as this code reads them
-  pub sites-told : sitesFit (entriesOf source line)
+  pub sites-told : sits Missing (columns (line .tag)) (entriesOf source line)
       ≡ cond (isMissing (getD (line .fields) 0 noField .said)) (isMissing (getD (line .fields) 1 noField .said))
       (not (isMissing (getD (line .fields) 1 noField .said)))
-  unfolding sitesFit
-  sites-told = rw (none-at source line seven 0 (omega arith), none-at source line seven 1 (omega arith))
+  sites-told =
+      sits-first (line .tag) (entriesOf source line)
+      (omega (arith, columns-two (line .tag), length-entries source line seven))
+      ∙ rw (none-at 0 (omega arith), none-at 1 (omega arith))
+      (go (isMissing (getD (line .fields) 0 noField .said)) (isMissing (getD (line .fields) 1 noField .said)))
+    where
+      go : (t u : Bool) → (agree t u && true) ≡ cond t u (not u)
+      go true true = refl
+      go true false = refl
+      go false true = refl
+      go false false = refl
 
 -- ---- taken apart
 
-pub taken-refused : (s : List ℕ) (m : Judging) → m ≡ notALine → Taken s m (refusing NotACountLine)
-taken-refused s m e = record { means = sym e; there = λ f. found-none NotACountLine f }
+pub taken-line : (s : List ℕ) (m : Judging) → m ≡ notALine → Taken s m (refusing NotACountLine)
+taken-line s m e = taken-refused s m NotACountLine e
 
-module _ (tag : Tag) (ps : List (List ℕ)) where
-  pub mean-misfit : fieldsFit (columns tag) ps ≡ false → fieldsMean tag ps ≡ notALine
+module _ (sep : ℕ) (tag : Tag) (ps : List (List ℕ)) where
+  pub mean-misfit : fieldsFit sep (columns tag) ps ≡ false → fieldsMean sep tag ps ≡ notALine
   mean-misfit e = rw e
 
-  module _ (f : fieldsFit (columns tag) ps ≡ true) where
-    pub mean-sites : sitesFit (entriesIn (columns tag) ps) ≡ false → fieldsMean tag ps ≡ notALine
+  module _ (f : fieldsFit sep (columns tag) ps ≡ true) where
+    pub mean-sites : sits Missing (columns tag) (entriesIn (columns tag) ps) ≡ false → fieldsMean sep tag ps ≡ notALine
     mean-sites e = rw (f, e)
 
-    pub mean-said : sitesFit (entriesIn (columns tag) ps) ≡ true
-        → fieldsMean tag ps ≡ Says (record { tag = tag; entries = entriesIn (columns tag) ps })
+    pub mean-said : sits Missing (columns tag) (entriesIn (columns tag) ps) ≡ true
+        → fieldsMean sep tag ps ≡ Says (record { tag = tag; entries = entriesIn (columns tag) ps })
     mean-said e = rw (f, e)
 
-module _ (s : List ℕ) where
-  pub content-broken : unbroken s ≡ false → contentMeans s ≡ notALine
+module _ (sep : ℕ) (s : List ℕ) where
+  pub content-broken : unbroken s ≡ false → contentMeans sep s ≡ notALine
   unfolding contentMeans
   content-broken e = rw e
 
-  pub content-tagged : unbroken s ≡ true → contentMeans s ≡ taggedMeans (tagOf s) s
+  pub content-tagged : unbroken s ≡ true → contentMeans sep s ≡ taggedMeans sep (tagOf s) s
   unfolding contentMeans
   content-tagged e = rw e
 
+module _ (s : List ℕ) where
   pub tag-four : (tag : Tag) → tagOf s ≡ Known tag → 4 ≤ length s
   tag-four tag e = go (starts (tagText Pcr) s) refl (starts (tagText Hbr) s) refl (starts (tagText Sbr) s) refl
     where

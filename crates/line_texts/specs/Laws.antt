@@ -1,49 +1,53 @@
 -- What is shown of lines: statements only. Each is proved in proofs/Canonical.antt, under its name in small letters.
 --
---   entriesFit     entries that some line says: each in its column's range
---   CanonicalRead  the canonical line of such entries means them
---   ReadFits       what any line means is such entries
+--   tells          whether a line can give an entry: it fits its column, is there where it must be, and can be written
+--   TellingBy      a meaning that some line has
+--   CanonicalRead  the canonical line of such a meaning means it
+--   ReadTells      what any line means is such a meaning
 --   ReadAgain      so any line that is read means what its canonical line means
 -- Assumes nothing.
 use mathlib.Core.Path.{_≡_}
-use mathlib.Core.Bool.{Bool, true, false, cond, not, _&&_}
+use mathlib.Core.Bool.{Bool, true, false, not, _&&_}
 use mathlib.Core.List.{List, [], _∷_}
 use Prim.Native.Nat.{ℕ}
-use lib.Dec.{leb}
-use lib.ListN.{length}
-use Rattle.prelude.specs.Each.{each}
 use Rattle.line_layouts.specs.declared.Column.{Column}
-use Rattle.line_layouts.specs.Columns.{columns}
-use Rattle.line_layouts.specs.Names.{allowed}
+use Rattle.line_layouts.specs.Columns.{separator, columns}
+use Rattle.line_layouts.specs.Names.{entryAllowed, separates}
 use Rattle.line_layouts.specs.Entries.{Entry, Missing, Number, Text, Meaning}
-use Rattle.line_layouts.specs.Layouts.{isName, textOf}
+use Rattle.line_layouts.specs.Layouts.{textBy, textOf}
+use Rattle.line_layouts.specs.Fitting.{entryFits, sits}
 use Rattle.line_layouts.specs.Judging.{Says}
-use Rattle.line_texts.specs.Pieces.{isNumber, letterFits}
-use Rattle.line_texts.specs.Texts.{sitesFit, lineMeaning}
+use Rattle.line_texts.specs.Texts.{lineMeaningBy, lineMeaning}
 
--- a number in range, or text of one byte up to what is kept, by the rules of its column
-abbrev pub entryFits : Column → Entry → Bool
-entryFits c Missing = not (c .2)
-entryFits c (Number n) = isNumber (c .0) && leb n (c .1)
-entryFits c (Text []) = false
-entryFits c (Text (b ∷ bs)) =
-    not (isNumber (c .0))
-    && (leb (length (b ∷ bs)) (c .1) && cond (isName (c .0)) (each allowed (b ∷ bs)) (letterFits (b ∷ bs)))
+abbrev pub given : Column → Entry → Bool
+given c Missing = not (c .2)
+given c (Number n) = true
+given c (Text bytes) = true
 
-abbrev pub entriesFit : List Column → List Entry → Bool
-entriesFit [] [] = true
-entriesFit [] (e ∷ es) = false
-entriesFit (c ∷ cs) [] = false
-entriesFit (c ∷ cs) (e ∷ es) = entryFits c e && entriesFit cs es
+abbrev pub tells : ℕ → Column → Entry → Bool
+tells sep c e = entryFits c e && (given c e && entryAllowed sep e)
 
-abbrev pub Fitting : Meaning → Type 0
-Fitting m = (entriesFit (columns (m .tag)) (m .entries) ≡ true) × (sitesFit (m .entries) ≡ true)
+abbrev pub allTell : ℕ → List Column → List Entry → Bool
+allTell sep [] [] = true
+allTell sep [] (e ∷ es) = false
+allTell sep (c ∷ cs) [] = false
+allTell sep (c ∷ cs) (e ∷ es) = tells sep c e && allTell sep cs es
+
+abbrev pub TellingBy : ℕ → Meaning → Type 0
+TellingBy sep m =
+    (allTell sep (columns (m .tag)) (m .entries) ≡ true)
+    × (sits Missing (columns (m .tag)) (m .entries) ≡ true)
+
+abbrev pub Telling : Meaning → Type 0
+Telling m = TellingBy separator m
 
 abbrev pub CanonicalRead : Type 0
-CanonicalRead = (m : Meaning) → Fitting m → lineMeaning (textOf m) ≡ Says m
+CanonicalRead = (sep : ℕ) → separates sep ≡ true → (m : Meaning) → TellingBy sep m
+    → lineMeaningBy sep (textBy sep m) ≡ Says m
 
-abbrev pub ReadFits : Type 0
-ReadFits = (line : List ℕ) (m : Meaning) → lineMeaning line ≡ Says m → Fitting m
+abbrev pub ReadTells : Type 0
+ReadTells = (sep : ℕ) → separates sep ≡ true → (line : List ℕ) (m : Meaning) → lineMeaningBy sep line ≡ Says m
+    → TellingBy sep m
 
 abbrev pub ReadAgain : Type 0
 ReadAgain = (line : List ℕ) (m : Meaning) → lineMeaning line ≡ Says m → lineMeaning (textOf m) ≡ Says m

@@ -9,7 +9,6 @@ use mathlib.Core.Path.{_≡_}
 use mathlib.Core.Bool.{Bool, true, false, cond, not, _||_}
 use mathlib.Core.List.{List, [], _∷_}
 use Prim.Native.Nat.{ℕ, _+_, _-_, _≤_}
-use Prim.Native.Char.{code}
 use lib.Dec.{eqb, leb, ltb}
 use lib.ListN.{length, take, drop}
 use Rattle.prelude.specs.Each.{each}
@@ -18,26 +17,25 @@ use Rattle.digits.specs.declared.Numeral.the-variants.{Value, NotANumber}
 use Rattle.digits.specs.Digits.{numeral}
 use Rattle.output.specs.Placed.{part}
 use Rattle.line_layouts.specs.declared.Tag.{Tag}
-use Rattle.line_layouts.specs.declared.Form.{Form}
-use Rattle.line_layouts.specs.declared.Form.the-variants.{U1, U2, U4, C1, Cn}
 use Rattle.line_layouts.specs.declared.Column.{Column}
 use Rattle.line_layouts.specs.declared.Said.{Said}
 use Rattle.line_layouts.specs.declared.Said.the-variants as said
 use Rattle.line_layouts.specs.declared.Line.{Line}
-use Rattle.line_layouts.specs.Columns.{separator, columns}
+use Rattle.line_layouts.specs.Columns.{columns}
 use Rattle.line_layouts.specs.Names.{allowed}
 use Rattle.line_layouts.specs.Entries.{Entry, Missing, Number, Text, entryOf, meaningOf, Within, AllWithin}
 use Rattle.line_layouts.specs.Layouts.{isName}
+use Rattle.line_layouts.specs.Fitting.{isNumber, letterFits}
 use Rattle.line_texts.specs.declared.Piece.{Piece}
 
 abbrev pub onto : ℕ → List (List ℕ) → List (List ℕ)
 onto b [] = (b ∷ []) ∷ []
 onto b (p ∷ ps) = (b ∷ p) ∷ ps
 
--- fields are separated by `|`
-unfoldable pub split : List ℕ → List (List ℕ)
-split [] = [] ∷ []
-split (b ∷ bs) = cond (eqb b separator) ([] ∷ split bs) (onto b (split bs))
+-- fields are separated by one byte
+unfoldable pub split : ℕ → List ℕ → List (List ℕ)
+split sep [] = [] ∷ []
+split sep (b ∷ bs) = cond (eqb b sep) ([] ∷ split sep bs) (onto b (split sep bs))
 
 -- a line may stop early: the fields that it does not come to are empty
 abbrev pub first : List (List ℕ) → List ℕ
@@ -50,13 +48,6 @@ rest (p ∷ ps) = ps
 
 -- ---- the rules of one piece
 
-abbrev pub isNumber : Form → Bool
-isNumber U1 = true
-isNumber U2 = true
-isNumber U4 = true
-isNumber C1 = false
-isNumber Cn = false
-
 -- numbers are one to ten digits, leading zeros allowed, in range
 abbrev pub numberFits : ℕ → Numeral → Bool
 numberFits most (Value n) = leb n most
@@ -66,24 +57,19 @@ abbrev pub numberIn : Numeral → Entry
 numberIn (Value n) = Number n
 numberIn NotANumber = Missing
 
--- P/F counts by its first character, P or F
-abbrev pub letterFits : List ℕ → Bool
-letterFits [] = false
-letterFits (b ∷ bs) = eqb b (code "P") || eqb b (code "F")
-
--- of a name every byte, cut ones too, must be allowed
-abbrev pub valueFits : Column → List ℕ → Bool
-valueFits c p =
-    cond (isNumber (c .0)) (numberFits (c .1) (numeral p)) (cond (isName (c .0)) (each allowed p) (letterFits p))
+-- of a name every byte, cut ones too, must be allowed; P/F counts by its first character
+abbrev pub valueFits : ℕ → Column → List ℕ → Bool
+valueFits sep c p =
+    cond (isNumber (c .0)) (numberFits (c .1) (numeral p)) (cond (isName (c .0)) (each (allowed sep) p) (letterFits p))
 
 -- a name over 255 bytes is cut to 255, P/F to its first
 abbrev pub valueIn : Column → List ℕ → Entry
 valueIn c p = cond (isNumber (c .0)) (numberIn (numeral p)) (Text (take (c .1) p))
 
 -- a required one empty does not fit
-unfoldable pub pieceFits : Column → List ℕ → Bool
-pieceFits c [] = not (c .2)
-pieceFits c (b ∷ bs) = valueFits c (b ∷ bs)
+unfoldable pub pieceFits : ℕ → Column → List ℕ → Bool
+pieceFits sep c [] = not (c .2)
+pieceFits sep c (b ∷ bs) = valueFits sep c (b ∷ bs)
 
 unfoldable pub entryIn : Column → List ℕ → Entry
 entryIn c [] = Missing
@@ -96,9 +82,9 @@ isNone [] = true
 isNone (p ∷ ps) = false
 
 -- too many fields, even empty ones, do not fit
-unfoldable pub fieldsFit : List Column → List (List ℕ) → Bool
-fieldsFit [] ps = isNone ps
-fieldsFit (c ∷ cs) ps = cond (pieceFits c (first ps)) (fieldsFit cs (rest ps)) false
+unfoldable pub fieldsFit : ℕ → List Column → List (List ℕ) → Bool
+fieldsFit sep [] ps = isNone ps
+fieldsFit sep (c ∷ cs) ps = cond (pieceFits sep c (first ps)) (fieldsFit sep cs (rest ps)) false
 
 unfoldable pub entriesIn : List Column → List (List ℕ) → List Entry
 entriesIn [] ps = []
@@ -107,21 +93,21 @@ entriesIn (c ∷ cs) ps = entryIn c (first ps) ∷ entriesIn cs (rest ps)
 -- ---- as this code holds them
 
 -- the pieces from place k on, where there are more
-abbrev pub left : Bool → ℕ → List ℕ → List (List ℕ)
-left more k s = cond more (split (drop k s)) []
+abbrev pub left : ℕ → Bool → ℕ → List ℕ → List (List ℕ)
+left sep more k s = cond more (split sep (drop k s)) []
 
 -- the end of the piece that begins at a place
-pub record Ends (s : List ℕ) (from to : ℕ) : Type 0 where
+pub record Ends (sep : ℕ) (s : List ℕ) (from to : ℕ) : Type 0 where
   pub low : from ≤ to
   pub high : to ≤ length s
-  pub cut : split (drop from s) ≡ part from (to - from) s ∷ left (ltb to (length s)) (to + 1) s
+  pub cut : split sep (drop from s) ≡ part from (to - from) s ∷ left sep (ltb to (length s)) (to + 1) s
 
 -- the next piece, and what is left behind it
-pub record Next (s : List ℕ) (from : ℕ) (more : Bool) (p : Piece) : Type 0 where
+pub record Next (sep : ℕ) (s : List ℕ) (from : ℕ) (more : Bool) (p : Piece) : Type 0 where
   pub there : p .at + p .len ≤ length s
-  pub is : part (p .at) (p .len) s ≡ first (left more from s)
+  pub is : part (p .at) (p .len) s ≡ first (left sep more from s)
   pub on : p .next ≤ length s
-  pub behind : left (p .more) (p .next) s ≡ rest (left more from s)
+  pub behind : left sep (p .more) (p .next) s ≡ rest (left sep more from s)
 
 abbrev pub numberSaid : Numeral → Said
 numberSaid (Value n) = said.Number n
@@ -137,6 +123,6 @@ abbrev pub short : Column → Bool
 short c = isNumber (c .0) || leb (c .1) 255
 
 -- a line whose fields say what its text says
-pub record Filled (s : List ℕ) (tag : Tag) (line : Line) : Type 0 where
+pub record Filled (sep : ℕ) (s : List ℕ) (tag : Tag) (line : Line) : Type 0 where
   pub there : AllWithin s line
-  pub is : meaningOf s line ≡ record { tag = tag; entries = entriesIn (columns tag) (split (drop 4 s)) }
+  pub is : meaningOf s line ≡ record { tag = tag; entries = entriesIn (columns tag) (split sep (drop 4 s)) }

@@ -3,8 +3,8 @@
 --   content       a line without its ending
 --   unbroken      no CR or LF is left
 --   tagOf         which line it is
---   sitesFit      head and site both empty or both given
---   lineMeaning   what a line means, or that it is no count line: 18
+--   lineMeaningBy what a line means, or that it is no count line: 18; the first argument is the separator
+--   lineMeaning   .. where it is `|`
 -- Assumes nothing.
 use mathlib.Core.Path.{_≡_}
 use mathlib.Core.Bool.{Bool, true, false, cond, not, _&&_, _||_}
@@ -18,13 +18,12 @@ use Rattle.answers.specs.declared.Answer.the-variants.{NotACountLine}
 use Rattle.line_layouts.specs.declared.Tag.{Tag}
 use Rattle.line_layouts.specs.declared.Tag.the-variants.{Pcr, Hbr, Sbr}
 use Rattle.line_layouts.specs.declared.Line.{Line}
-use Rattle.line_layouts.specs.declared.Fault.the-variants.{None}
-use Rattle.line_layouts.specs.declared.Judged.{Judged}
-use Rattle.line_layouts.specs.Columns.{lineFeed, carriageReturn, tagText, columns}
-use Rattle.line_layouts.specs.Entries.{Entry, Missing, Number, Text, entriesOf, AllWithin}
-use Rattle.line_layouts.specs.Judging.{Judging, Says, Faulty, saidIn}
-use Rattle.line_texts.specs.declared.Tagging.{Tagging}
-use Rattle.line_texts.specs.declared.Tagging.the-variants.{Known, Other}
+use Rattle.line_layouts.specs.Columns.{separator, lineFeed, carriageReturn, tagText, columns}
+use Rattle.line_layouts.specs.Entries.{Missing, entriesOf}
+use Rattle.line_layouts.specs.Fitting.{sits}
+use Rattle.line_layouts.specs.Judging.{Judging, Says, Faulty}
+use Rattle.line_layouts.specs.declared.Tagging.{Tagging}
+use Rattle.line_layouts.specs.declared.Tagging.the-variants.{Known, Other}
 use Rattle.line_texts.specs.Pieces.{split, fieldsFit, entriesIn}
 
 abbrev pub isBreak : ℕ → Bool
@@ -57,41 +56,32 @@ tagOf s =
     cond (starts (tagText Pcr) s) (Known Pcr)
     (cond (starts (tagText Hbr) s) (Known Hbr) (cond (starts (tagText Sbr) s) (Known Sbr) Other))
 
-abbrev pub none : Entry → Bool
-none Missing = true
-none (Number n) = false
-none (Text bytes) = false
-
--- head and site are both empty (all sites) or both given
-unfoldable pub sitesFit : List Entry → Bool
-sitesFit es = cond (none (getD es 0 Missing)) (none (getD es 1 Missing)) (not (none (getD es 1 Missing)))
-
 abbrev pub notALine : Judging
 notALine = Faulty NotACountLine
 
-abbrev pub fieldsMean : Tag → List (List ℕ) → Judging
-fieldsMean tag ps =
-    notALine unless fieldsFit (columns tag) ps then
-    notALine unless sitesFit (entriesIn (columns tag) ps) then
+-- head and site are both empty (all sites) or both given
+abbrev pub fieldsMean : ℕ → Tag → List (List ℕ) → Judging
+fieldsMean sep tag ps =
+    notALine unless fieldsFit sep (columns tag) ps then
+    notALine unless sits Missing (columns tag) (entriesIn (columns tag) ps) then
     Says (record { tag = tag; entries = entriesIn (columns tag) ps })
 
-abbrev pub taggedMeans : Tagging → List ℕ → Judging
-taggedMeans (Known tag) s = fieldsMean tag (split (drop 4 s))
-taggedMeans Other s = notALine
+abbrev pub taggedMeans : ℕ → Tagging → List ℕ → Judging
+taggedMeans sep (Known tag) s = fieldsMean sep tag (split sep (drop 4 s))
+taggedMeans sep Other s = notALine
 
-unfoldable pub contentMeans : List ℕ → Judging
-contentMeans s = notALine unless unbroken s then taggedMeans (tagOf s) s
+unfoldable pub contentMeans : ℕ → List ℕ → Judging
+contentMeans sep s = notALine unless unbroken s then taggedMeans sep (tagOf s) s
 
+abbrev pub lineMeaningBy : ℕ → List ℕ → Judging
+lineMeaningBy sep line = contentMeans sep (content line)
+
+-- fields are separated by `|`
 abbrev pub lineMeaning : List ℕ → Judging
-lineMeaning line = contentMeans (content line)
+lineMeaning line = lineMeaningBy separator line
 
 -- ---- as this code holds it
 
--- text taken apart: what it means, by bytes that are there
-pub record Taken (s : List ℕ) (m : Judging) (j : Judged) : Type 0 where
-  pub means : saidIn s j ≡ m
-  pub there : j .fault ≡ None → AllWithin s (j .line)
-
 -- head and site, wherever the bytes that fields name stand
 pub record Sited (line : Line) (r : Bool) : Type 0 where
-  pub all : (source : List ℕ) → r ≡ sitesFit (entriesOf source line)
+  pub all : (source : List ℕ) → r ≡ sits Missing (columns (line .tag)) (entriesOf source line)

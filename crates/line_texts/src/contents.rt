@@ -1,11 +1,11 @@
 // A line without its ending, and what it means: document 01, "Count lines", Read.
-use super::Tagging;
 use super::pieces::fields_fit;
 use super::pieces::fill;
 use answers::Answer;
 use line_layouts::Judged;
 use line_layouts::Line;
 use line_layouts::Tag;
+use line_layouts::Tagging;
 use line_layouts::columns::CARRIAGE_RETURN;
 use line_layouts::columns::LINE_FEED;
 use line_layouts::judging::refused_line;
@@ -17,7 +17,8 @@ ghost use mathlib.Core.List.{[], _∷_};
 ghost use Prim.Native.Nat.{_-_, _≤_};
 ghost use lib.ListN.{length, drop};
 ghost use Rattle.line_texts.specs.Pieces.{split};
-ghost use Rattle.line_texts.specs.Texts.{isBreak, ending, unbroken, starts, tagOf, fieldsMean, contentMeans, Taken};
+ghost use Rattle.line_layouts.specs.Judging.{Taken};
+ghost use Rattle.line_texts.specs.Texts.{isBreak, ending, unbroken, starts, tagOf, fieldsMean, contentMeans};
 ghost use Rattle.line_texts.specs.Texts.{Sited};
 
 fn is_break(b: u8) -> bool
@@ -110,29 +111,29 @@ fn sites_fit(line: Line) -> bool
     if head { site } else { !site }
 }
 
-fn judge_fields(s: &[u8], tag: Tag) -> Judged
+fn judge_fields(s: &[u8], sep: u8, tag: Tag) -> Judged
     requires { ⌜ 4 ≤ length (now s) ⌝ }
-    ensures { λ r. ⌜ Taken (now (s .entry)) (fieldsMean tag (split (drop 4 (now (s .entry))))) r ⌝ }
+    ensures { λ r. ⌜ Taken (now (s .entry)) (fieldsMean sep tag (split sep (drop 4 (now (s .entry))))) r ⌝ }
 {
-    if !fields_fit(s, tag) {
+    if !fields_fit(s, sep, tag) {
         return refused_line(Answer::NotACountLine);
     }
-    let line = fill(s, tag);
+    let line = fill(s, sep, tag);
     if !sites_fit(line) {
         return refused_line(Answer::NotACountLine);
     }
     said_line(line)
 }
 
-// A line without its ending, taken apart.
-pub fn judge_content(s: &[u8]) -> Judged
-    ensures { λ r. ⌜ Taken (now (s .entry)) (contentMeans (now (s .entry))) r ⌝ }
+// A line without its ending, taken apart, its fields with a separator between them.
+pub fn judge_content(s: &[u8], sep: u8) -> Judged
+    ensures { λ r. ⌜ Taken (now (s .entry)) (contentMeans sep (now (s .entry))) r ⌝ }
 {
     if !is_unbroken(s) {
         return refused_line(Answer::NotACountLine);
     }
     match tag_of(s) {
-        Tagging::Known(tag) => judge_fields(s, tag),
+        Tagging::Known(tag) => judge_fields(s, sep, tag),
         Tagging::Other => refused_line(Answer::NotACountLine),
     }
 }

@@ -1,18 +1,17 @@
 // The fields of a line, one piece of text each.
 use super::Piece;
-use bodies::Name;
 use digits::Numeral;
 use line_layouts::Column;
 use line_layouts::Field;
-use line_layouts::Form;
 use line_layouts::Line;
 use line_layouts::Said;
 use line_layouts::Tag;
-use line_layouts::columns::SEPARATOR;
 use line_layouts::columns::column_at;
 use line_layouts::columns::column_count;
-use line_layouts::laying::is_name;
+use line_layouts::forms::is_name;
+use line_layouts::forms::is_number;
 use line_layouts::names::part_allowed;
+use values::Name;
 ghost use mathlib.Core.Path.{_≡_};
 ghost use mathlib.Core.Bool.{true};
 ghost use Prim.Native.Nat.{_+_, _≤_, min};
@@ -20,21 +19,9 @@ ghost use lib.ListN.{length, drop};
 ghost use Rattle.digits.specs.Digits.{numeral};
 ghost use Rattle.output.specs.Placed.{part};
 ghost use Rattle.line_layouts.specs.Columns.{columns};
-ghost use Rattle.line_texts.specs.Pieces.{split, isNumber, numberFits, letterFits, valueFits, pieceFits, entryIn};
-ghost use Rattle.line_texts.specs.Pieces.{fieldsFit};
+ghost use Rattle.line_layouts.specs.Fitting.{letterFits};
+ghost use Rattle.line_texts.specs.Pieces.{split, numberFits, valueFits, pieceFits, entryIn, fieldsFit};
 ghost use Rattle.line_texts.specs.Pieces.{Ends, Next, numberSaid, Holds, short, Filled};
-
-fn is_number(form: Form) -> bool
-    ensures { λ r. ⌜ r ≡ isNumber form ⌝ }
-{
-    match form {
-        Form::U1 => true,
-        Form::U2 => true,
-        Form::U4 => true,
-        Form::C1 => false,
-        Form::Cn => false,
-    }
-}
 
 fn number_fits(piece: &[u8], most: u32) -> bool
     ensures { λ r. ⌜ r ≡ numberFits most (numeral (now (piece .entry))) ⌝ }
@@ -58,38 +45,38 @@ fn letter_fits(piece: &[u8]) -> bool
     c == b'F'
 }
 
-fn value_fits(column: Column, piece: &[u8]) -> bool
-    ensures { λ r. ⌜ r ≡ valueFits column (now (piece .entry)) ⌝ }
+fn value_fits(sep: u8, column: Column, piece: &[u8]) -> bool
+    ensures { λ r. ⌜ r ≡ valueFits sep column (now (piece .entry)) ⌝ }
 {
     let form = column.0;
     if is_number(form) {
         return number_fits(piece, column.1);
     }
     if is_name(form) {
-        return part_allowed(piece, 0, piece.len());
+        return part_allowed(sep, piece, 0, piece.len());
     }
     letter_fits(piece)
 }
 
 // Whether a piece is the text of a column.
-fn piece_fits(column: Column, piece: &[u8]) -> bool
-    ensures { λ r. ⌜ r ≡ pieceFits column (now (piece .entry)) ⌝ }
+fn piece_fits(sep: u8, column: Column, piece: &[u8]) -> bool
+    ensures { λ r. ⌜ r ≡ pieceFits sep column (now (piece .entry)) ⌝ }
 {
     if piece.len() == 0 {
         !column.2
     } else {
-        value_fits(column, piece)
+        value_fits(sep, column, piece)
     }
 }
 
 // Where the piece that begins at `from` ends: at the next separator, or with the text.
-fn piece_end(text: &[u8], from: usize) -> usize
+fn piece_end(text: &[u8], sep: u8, from: usize) -> usize
     requires { ⌜ from ≤ length (now text) ⌝ }
-    ensures { λ r. ⌜ Ends (now (text .entry)) from r ⌝ }
+    ensures { λ r. ⌜ Ends sep (now (text .entry)) from r ⌝ }
 {
     let mut i = from;
     while i < text.len() {
-        if text[i] == SEPARATOR {
+        if text[i] == sep {
             return i;
         }
         i += 1;
@@ -97,9 +84,9 @@ fn piece_end(text: &[u8], from: usize) -> usize
     i
 }
 
-fn piece_at(text: &[u8], from: usize, more: bool) -> Piece
+fn piece_at(text: &[u8], sep: u8, from: usize, more: bool) -> Piece
     requires { ⌜ from ≤ length (now text) ⌝ }
-    ensures { λ r. ⌜ Next (now (text .entry)) from more r ⌝ }
+    ensures { λ r. ⌜ Next sep (now (text .entry)) from more r ⌝ }
 {
     if !more {
         return Piece {
@@ -109,7 +96,7 @@ fn piece_at(text: &[u8], from: usize, more: bool) -> Piece
             more: false,
         };
     }
-    let to = piece_end(text, from);
+    let to = piece_end(text, sep, from);
     if to < text.len() {
         Piece {
             at: from,
@@ -127,26 +114,26 @@ fn piece_at(text: &[u8], from: usize, more: bool) -> Piece
     }
 }
 
-fn fits_at(column: Column, text: &[u8], at: usize, len: usize) -> bool
+fn fits_at(sep: u8, column: Column, text: &[u8], at: usize, len: usize) -> bool
     requires { ⌜ at + len ≤ length (now text) ⌝ }
-    ensures { λ r. ⌜ r ≡ pieceFits column (part at len (now (text .entry))) ⌝ }
+    ensures { λ r. ⌜ r ≡ pieceFits sep column (part at len (now (text .entry))) ⌝ }
 {
     let end = at + len;
-    piece_fits(column, &text[at..end])
+    piece_fits(sep, column, &text[at..end])
 }
 
 // Whether the text behind a tag is one piece for each column at most, each of which fits.
-pub fn fields_fit(text: &[u8], tag: Tag) -> bool
+pub fn fields_fit(text: &[u8], sep: u8, tag: Tag) -> bool
     requires { ⌜ 4 ≤ length (now text) ⌝ }
-    ensures { λ r. ⌜ r ≡ fieldsFit (columns tag) (split (drop 4 (now (text .entry)))) ⌝ }
+    ensures { λ r. ⌜ r ≡ fieldsFit sep (columns tag) (split sep (drop 4 (now (text .entry)))) ⌝ }
 {
     let count = column_count(tag);
     let mut from: usize = 4;
     let mut more = true;
     let mut j: usize = 0;
     while j < count {
-        let piece = piece_at(text, from, more);
-        if !fits_at(column_at(tag, j), text, piece.at, piece.len) {
+        let piece = piece_at(text, sep, from, more);
+        if !fits_at(sep, column_at(tag, j), text, piece.at, piece.len) {
             return false;
         }
         from = piece.next;
@@ -173,9 +160,9 @@ fn shorter(a: usize, b: usize) -> usize
 }
 
 // What a piece that fits says; of text, no more than is kept.
-fn said_in(column: Column, text: &[u8], at: usize, len: usize) -> Said
+fn said_in(sep: u8, column: Column, text: &[u8], at: usize, len: usize) -> Said
     requires { ⌜ (at + len ≤ length (now text)) × (short column ≡ true)
-        × (pieceFits column (part at len (now text)) ≡ true) ⌝ }
+        × (pieceFits sep column (part at len (now text)) ≡ true) ⌝ }
     ensures { λ r. ⌜ Holds (now (text .entry)) r (entryIn column (part at len (now (text .entry)))) ⌝ }
 {
     if len == 0 {
@@ -193,9 +180,9 @@ fn said_in(column: Column, text: &[u8], at: usize, len: usize) -> Said
 }
 
 // The fields of a text that fits.
-pub fn fill(text: &[u8], tag: Tag) -> Line
-    requires { ⌜ (4 ≤ length (now text)) × (fieldsFit (columns tag) (split (drop 4 (now text))) ≡ true) ⌝ }
-    ensures { λ r. ⌜ Filled (now (text .entry)) tag r ⌝ }
+pub fn fill(text: &[u8], sep: u8, tag: Tag) -> Line
+    requires { ⌜ (4 ≤ length (now text)) × (fieldsFit sep (columns tag) (split sep (drop 4 (now text))) ≡ true) ⌝ }
+    ensures { λ r. ⌜ Filled sep (now (text .entry)) tag r ⌝ }
 {
     let count = column_count(tag);
     let none = Field {
@@ -206,8 +193,8 @@ pub fn fill(text: &[u8], tag: Tag) -> Line
     let mut more = true;
     let mut j: usize = 0;
     while j < count {
-        let piece = piece_at(text, from, more);
-        let said = said_in(column_at(tag, j), text, piece.at, piece.len);
+        let piece = piece_at(text, sep, from, more);
+        let said = said_in(sep, column_at(tag, j), text, piece.at, piece.len);
         fields[j] = Field { said };
         from = piece.next;
         more = piece.more;

@@ -14,10 +14,11 @@ use Rattle.output.specs.declared.Written.the-variants as written
 use Rattle.output.specs.Placed.{Making, Makes, Refuses, Outcome, outcome, refused, placedAt, placed}
 use Rattle.lines.specs.Writing.{textFor, lineWritten}
 use Rattle.lines.specs.Reading.{recordFor, lineRead}
+use Rattle.line_layouts.specs.Columns.{separator}
+use Rattle.line_layouts.proofs.Tables.{bar-separates}
 use Rattle.line_texts.proofs.Canonical.{canonical-read}
 use Rattle.lines.specs.Laws.{WrittenOnce, ReadOnce, WrittenRead, WrittenMost, RecordRead}
 use Rattle.lines.specs.Laws.{ThereAndBack, BackAgain, WriteRefused, ReadRefused}
-use Rattle.lines.proofs.Fitting.{record-fits}
 use Rattle.lines.proofs.Most.{text-most}
 use Rattle.lines.proofs.Made as made
 use Rattle.lines.proofs.Rounds as rounds
@@ -29,10 +30,10 @@ pub read-once : ReadOnce
 read-once cpu line old at = equation Outcome (lineRead cpu line old at)
 
 pub written-read : WrittenRead
-written-read order s m bytes e ok = canonical-read m (record-fits order s m bytes e ok) ∙ sym e
+written-read order s m e ok = canonical-read separator bar-separates m (rounds.record-tells order s m e ok) ∙ sym e
 
 pub written-most : WrittenMost
-written-most order s m bytes e ok = text-most m (record-fits order s m bytes e ok)
+written-most order s m e ok = text-most separator m (rounds.record-fits order s m e)
 
 pub record-read : RecordRead
 record-read = made.record-read

@@ -1,14 +1,13 @@
 -- How long the canonical line of a meaning that fits is at most.
 -- Assumes nothing.
 use mathlib.Core.Path.{_≡_, refl, ap, _∙_}
-use mathlib.Core.Bool.{Bool, true, false, cond, not, _&&_}
+use mathlib.Core.Bool.{Bool, true, false, cond, not, _&&_, _||_}
 use mathlib.Core.List.{List, [], _∷_, _++_}
-use Prim.Native.Nat.{ℕ, _+_, _/_, _≤_}
+use Prim.Native.Nat.{ℕ, suc, _+_, _/_, _≤_}
 use native.Mathlib.Omega.{arith}
 use borrow.Author.Tests.{ltb-true, ltb-false, leb-true, not-true}
 use lib.Dec.{ltb, leb}
 use lib.ListN.{length, length-append}
-use Rattle.prelude.specs.Each.{each}
 use Rattle.prelude.proofs.Never.{false-true}
 use Rattle.prelude.proofs.Both.{both-left, both-right}
 use Rattle.digits.specs.Digits.{digits}
@@ -16,14 +15,12 @@ use Rattle.digits.proofs.Laws.{by-quotient, length-one, length-more, digits-som
 use Rattle.line_layouts.specs.declared.Tag.{Tag}
 use Rattle.line_layouts.specs.declared.Tag.the-variants.{Pcr, Hbr, Sbr}
 use Rattle.line_layouts.specs.declared.Column.{Column}
-use Rattle.line_layouts.specs.declared.Layout.{Layout}
 use Rattle.line_layouts.specs.declared.Layout.the-variants as layout
-use Rattle.line_layouts.specs.Columns.{tagText, columns}
-use Rattle.line_layouts.specs.Names.{allowed}
+use Rattle.line_layouts.specs.Columns.{tagText, columns, noColumn}
 use Rattle.line_layouts.specs.Entries.{Entry, Missing, Number, Text, Meaning, kept, present}
-use Rattle.line_layouts.specs.Layouts.{isName, entryText, mark, isLast, laid, textOf}
-use Rattle.line_texts.specs.Pieces.{isNumber, letterFits}
-use Rattle.line_texts.specs.Laws.{entryFits, entriesFit, Fitting}
+use Rattle.line_layouts.specs.Layouts.{isName, entryText, mark, isLast, laid, textBy}
+use Rattle.line_layouts.specs.Fitting.{isNumber, letterFits, entryFits, entriesFit, Fitting}
+use Rattle.line_texts.proofs.Canonical.{in-order}
 
 -- a greater number has no fewer digits
 digits-rising : (m n : ℕ) → n ≤ m → length (digits n) ≤ length (digits m)
@@ -50,45 +47,55 @@ entry-most c (Number n) e =
     (digits-rising (c .1) n (leb-true n (c .1) (both-right (isNumber (c .0)) (leb n (c .1)) e)))
 entry-most c (Text []) e = false-true e
 entry-most c (Text (b ∷ bs)) e =
-    let rule = cond (isName (c .0)) (each allowed (b ∷ bs)) (letterFits (b ∷ bs)) in
+    let rule = isName (c .0) || letterFits (b ∷ bs) in
     let size = leb (length (b ∷ bs)) (c .1) in
     let f = not-true (isNumber (c .0)) (both-left (not (isNumber (c .0))) (size && rule) e) in
     rw f (leb-true (length (b ∷ bs)) (c .1) (both-left size rule (both-right (not (isNumber (c .0))) (size && rule) e)))
 
--- a field, then the rest
-laid-cons : (c : Column) (cs : List Column) (e : Entry) (es : List Entry)
-    → length (laid layout.Text (c ∷ cs) (e ∷ es)) ≡ length (entryText e) + 1 + length (laid layout.Text cs es)
-unfolding laid
-laid-cons c cs e es =
-    length-append (entryText e ++ mark (isLast es) ∷ []) (laid layout.Text cs es)
-    ∙ omega (arith, length-append (entryText e) (mark (isLast es) ∷ []))
+module _ (sep : ℕ) where
+  abbrev laidText : List Column → List Entry → List ℕ
+  laidText cs es = laid (layout.Text sep) cs es
 
-pub laid-none : (l : Layout) (cs : List Column) → laid l cs [] ≡ []
-unfolding laid
-laid-none l [] = refl
-laid-none l (c ∷ cs) = refl
+  -- a field, then the rest
+  laid-cons : (c : Column) (cs : List Column) (e : Entry) (es : List Entry)
+      → length (laidText (c ∷ cs) (e ∷ es)) ≡ length (entryText e) + 1 + length (laidText cs es)
+  unfolding laid
+  laid-cons c cs e es =
+      length-append (entryText e ++ mark sep (isLast es) ∷ []) (laidText cs es)
+      ∙ omega (arith, length-append (entryText e) (mark sep (isLast es) ∷ []))
 
-laid-kept : (c : Column) (cs : List Column) (e : Entry) (es : List Entry)
-    → length (laid layout.Text (c ∷ cs) (kept e es)) ≤ length (entryText e) + 1 + length (laid layout.Text cs es)
-laid-kept c cs Missing [] = omega (arith, ap length (laid-none layout.Text (c ∷ cs)))
-laid-kept c cs Missing (x ∷ es) = omega (arith, laid-cons c cs Missing (x ∷ es))
-laid-kept c cs (Number n) es = omega (arith, laid-cons c cs (Number n) es)
-laid-kept c cs (Text bytes) es = omega (arith, laid-cons c cs (Text bytes) es)
+  laid-none : (cs : List Column) → laidText cs [] ≡ []
+  unfolding laid
+  laid-none [] = refl
+  laid-none (c ∷ cs) = refl
+
+  laid-kept : (c : Column) (cs : List Column) (e : Entry) (es : List Entry)
+      → length (laidText (c ∷ cs) (kept 0 e es)) ≤ length (entryText e) + 1 + length (laidText cs es)
+  laid-kept c cs Missing [] = omega (arith, ap length (laid-none (c ∷ cs)))
+  laid-kept c cs Missing (x ∷ es) = omega (arith, laid-cons c cs Missing (x ∷ es))
+  laid-kept c cs (Number n) es = omega (arith, laid-cons c cs (Number n) es)
+  laid-kept c cs (Text bytes) es = omega (arith, laid-cons c cs (Text bytes) es)
 
 -- the longest line of columns
 abbrev total : List Column → ℕ
 total [] = 0
 total (c ∷ cs) = most c + 1 + total cs
 
-laid-most : (cs : List Column) (es : List Entry) → entriesFit cs es ≡ true
-    → length (laid layout.Text cs (present es)) ≤ total cs
-laid-most [] [] e = omega (arith, ap length (laid-none layout.Text []))
-laid-most [] (x ∷ es) e = false-true e
-laid-most (c ∷ cs) [] e = false-true e
-laid-most (c ∷ cs) (x ∷ es) e =
+laid-most : (sep : ℕ) (cs : List Column) (es : List Entry) → entriesFit cs es ≡ true
+    → length (laidText sep cs (present 0 es)) ≤ total cs
+laid-most sep [] [] e = omega (arith, ap length (laid-none sep []))
+laid-most sep [] (x ∷ es) e = false-true e
+laid-most sep (c ∷ cs) [] e = false-true e
+laid-most sep (c ∷ cs) (x ∷ es) e =
     let here = entry-most c x (both-left (entryFits c x) (entriesFit cs es) e) in
-    let behind = laid-most cs es (both-right (entryFits c x) (entriesFit cs es) e) in
-    omega (arith, laid-kept c cs x (present es), here, behind)
+    let behind = laid-most sep cs es (both-right (entryFits c x) (entriesFit cs es) e) in
+    omega (arith, laid-kept sep c cs x (present 0 es), here, behind)
+
+length-fit : (cs : List Column) (es : List Entry) → entriesFit cs es ≡ true → length es ≡ length cs
+length-fit [] [] e = refl
+length-fit [] (x ∷ es) e = false-true e
+length-fit (c ∷ cs) [] e = false-true e
+length-fit (c ∷ cs) (x ∷ es) e = ap suc (length-fit cs es (both-right (entryFits c x) (entriesFit cs es) e))
 
 total-most : (tag : Tag) → total (columns tag) ≤ 283
 unfolding digits
@@ -101,12 +108,16 @@ tag-size Pcr = refl
 tag-size Hbr = refl
 tag-size Sbr = refl
 
-pub text-most : (m : Meaning) → Fitting m → length (textOf m) ≤ 287
-text-most m fit =
-    omega (
+pub text-most : (sep : ℕ) (m : Meaning) → Fitting m → length (textBy sep m) ≤ 287
+text-most sep m fit =
+    let tag = m .tag in
+    let cs = columns tag in
+    let size = length-fit cs (m .entries) (fit .0) in
+    rw (in-order Column noColumn tag cs refl, in-order Entry Missing tag (m .entries) size)
+    (omega (
       arith,
-      length-append (tagText (m .tag)) (laid layout.Text (columns (m .tag)) (present (m .entries))),
-      tag-size (m .tag),
-      laid-most (columns (m .tag)) (m .entries) (fit .0),
-      total-most (m .tag),
-    )
+      length-append (tagText tag) (laidText sep cs (present 0 (m .entries))),
+      tag-size tag,
+      laid-most sep cs (m .entries) (fit .0),
+      total-most tag,
+    ))

@@ -18,17 +18,18 @@ use Rattle.prelude.specs.Each.{each}
 use Rattle.numbers.specs.declared.Order.{Order}
 use Rattle.numbers.specs.declared.Ordering.the-variants.{Known}
 use Rattle.numbers.specs.Orders.{orderOf}
-use Rattle.numbers.specs.Laws.{Bytes}
 use Rattle.answers.specs.declared.Answer.{Answer}
 use Rattle.line_layouts.specs.Entries.{Meaning}
 use Rattle.line_layouts.specs.Layouts.{textOf, recordOf}
 use Rattle.line_layouts.specs.Judging.{Says}
 use Rattle.line_records.specs.Records.{meaning}
 use Rattle.line_texts.specs.Texts.{lineMeaning}
-use Rattle.line_texts.specs.Laws.{Fitting}
+use Rattle.line_layouts.specs.Columns.{separator}
+use Rattle.line_layouts.specs.Names.{entryAllowed}
+use Rattle.line_layouts.specs.Fitting.{Fitting}
 use Rattle.output.specs.declared.Written.the-variants as written
 use Rattle.output.specs.Placed.{part, Outcome, outcome, placedAt}
-use Rattle.lines.specs.Writing.{entryAllowed, lineWritten}
+use Rattle.lines.specs.Writing.{lineWritten}
 use Rattle.lines.specs.Reading.{lineRead}
 
 -- what the two calls promise, of any outcome
@@ -48,10 +49,10 @@ ReadOnce = (cpu : ℕ) (line old : List ℕ) (at : ℕ) → Once (ReadPromise cp
 -- any record that can be written: its line, read back, has the same meaning. The site under head 255 is no part of a
 -- meaning
 abbrev pub WrittenRead : Type 0
-WrittenRead = (order : Order) (s : List ℕ) (m : Meaning) → Bytes s → meaning order s ≡ Says m
-    → each entryAllowed (m .entries) ≡ true → lineMeaning (textOf m) ≡ meaning order s
+WrittenRead = (order : Order) (s : List ℕ) (m : Meaning) → meaning order s ≡ Says m
+    → each (entryAllowed separator) (m .entries) ≡ true → lineMeaning (textOf m) ≡ meaning order s
 
--- any meaning that a line can have: the record made from it has that meaning
+-- any meaning that fits its columns, so any that a line can have: the record made from it has that meaning
 abbrev pub RecordRead : Type 0
 RecordRead = (order : Order) (m : Meaning) → Fitting m → meaning order (recordOf order m) ≡ Says m
 
@@ -67,7 +68,7 @@ pub record ReadBack (cpu : ℕ) (order : Order) (s text : List ℕ) : Type 0 whe
 -- of it left at their offset are such a text. The site under head 255 is no part of a meaning
 abbrev pub ThereAndBack : Type 0
 ThereAndBack = (cpu : ℕ) (order : Order) → orderOf cpu ≡ Known order
-    → (s old : List ℕ) (at n : ℕ) (new : List ℕ) → Bytes s
+    → (s old : List ℕ) (at n : ℕ) (new : List ℕ)
     → lineWritten cpu s old at ≡ outcome (written.Bytes n) new → ReadBack cpu order s (part at n new)
 
 -- the record of a line is written as the canonical line of a meaning: that of the line, and of its canonical line
@@ -85,8 +86,8 @@ BackAgain = (cpu : ℕ) (line old : List ℕ) (at n : ℕ) (new : List ℕ)
 
 -- the longest is 287 bytes, its LF with it
 abbrev pub WrittenMost : Type 0
-WrittenMost = (order : Order) (s : List ℕ) (m : Meaning) → Bytes s → meaning order s ≡ Says m
-    → each entryAllowed (m .entries) ≡ true → length (textOf m) ≤ 287
+WrittenMost = (order : Order) (s : List ℕ) (m : Meaning) → meaning order s ≡ Says m
+    → each (entryAllowed separator) (m .entries) ≡ true → length (textOf m) ≤ 287
 
 -- a refusal changes no byte of the output
 abbrev pub WriteRefused : Type 0

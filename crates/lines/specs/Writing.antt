@@ -1,11 +1,9 @@
 -- Writing: from a record to its line. Document 01, "Count lines", Written, and orders of checks, Writing checks 4, 3,
 -- 6, 7, 19, 17.
 --
---   entryAllowed  whether an entry can be written as text
 --   textFor       the text that a record makes, or what it is refused with
 --   lineWritten   the outcome of writing: the answer, and every byte of the output
 -- Assumes nothing.
-use mathlib.Core.Bool.{Bool, true}
 use mathlib.Core.List.{List}
 use Prim.Native.Nat.{ℕ}
 use Rattle.prelude.specs.Choice.{_unless_then_}
@@ -15,25 +13,20 @@ use Rattle.numbers.specs.declared.Ordering.{Ordering}
 use Rattle.numbers.specs.declared.Ordering.the-variants.{Known, Unknown}
 use Rattle.numbers.specs.Orders.{orderOf}
 use Rattle.output.specs.Placed.{Making, Makes, Refuses, Outcome, placed}
-use Rattle.line_layouts.specs.Entries.{Entry, Missing, Number, Text}
-use Rattle.line_layouts.specs.Layouts.{textOf}
-use Rattle.line_layouts.specs.Names.{allowed}
+use Rattle.line_layouts.specs.Columns.{separator}
+use Rattle.line_layouts.specs.Layouts.{textBy}
+use Rattle.line_layouts.specs.Names.{entryAllowed}
 use Rattle.line_layouts.specs.Judging.{Judging, Says, Faulty}
 use Rattle.line_records.specs.Records.{meaning}
 
-abbrev pub entryAllowed : Entry → Bool
-entryAllowed Missing = true
-entryAllowed (Number n) = true
-entryAllowed (Text bytes) = each allowed bytes
-
--- .. else 19
-abbrev pub textMade : Judging → Making
-textMade (Says m) = Refuses NameNotText unless each entryAllowed (m .entries) then Makes (textOf m)
-textMade (Faulty answer) = Refuses answer
+-- .. else 19; the first argument is the separator
+abbrev pub textMade : ℕ → Judging → Making
+textMade sep (Says m) = Refuses NameNotText unless each (entryAllowed sep) (m .entries) then Makes (textBy sep m)
+textMade sep (Faulty answer) = Refuses answer
 
 -- 4 comes first
 abbrev pub textIn : Ordering → List ℕ → Making
-textIn (Known order) s = textMade (meaning order s)
+textIn (Known order) s = textMade separator (meaning order s)
 textIn Unknown s = Refuses UnknownOrder
 
 abbrev pub textFor : ℕ → List ℕ → Making

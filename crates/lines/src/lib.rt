@@ -3,6 +3,7 @@ mod reading;
 mod writing;
 
 use answers::Answer;
+use line_layouts::columns::SEPARATOR;
 use numbers::Ordering;
 use output::Written;
 ghost use mathlib.Core.Path.{_≡_};
@@ -15,7 +16,7 @@ pub fn write_line(order: u8, record: &[u8], out: &mut [u8], at: usize) -> Writte
     ensures { λ r. ⌜ outcome r (now (out .exit)) ≡ lineWritten order (now («record» .entry)) (now (out .entry)) at ⌝ }
 {
     match numbers::order_of(order) {
-        Ordering::Known(order) => writing::write_in(out, at, order, record),
+        Ordering::Known(order) => writing::write_in(out, at, order, SEPARATOR, record),
         Ordering::Unknown => Written::Refused(Answer::UnknownOrder),
     }
 }
@@ -25,7 +26,7 @@ pub fn read_line(order: u8, line: &[u8], out: &mut [u8], at: usize) -> Written
     ensures { λ r. ⌜ outcome r (now (out .exit)) ≡ lineRead order (now (line .entry)) (now (out .entry)) at ⌝ }
 {
     match numbers::order_of(order) {
-        Ordering::Known(order) => reading::read_in(out, at, order, line),
+        Ordering::Known(order) => reading::read_in(out, at, order, SEPARATOR, line),
         Ordering::Unknown => Written::Refused(Answer::UnknownOrder),
     }
 }

@@ -8,14 +8,14 @@ use numbers::Order;
 use output::Written;
 ghost use mathlib.Core.Path.{_≡_};
 ghost use Rattle.output.specs.Placed.{outcome, placed};
-ghost use Rattle.line_texts.specs.Texts.{contentMeans, lineMeaning};
+ghost use Rattle.line_texts.specs.Texts.{contentMeans, lineMeaningBy};
 ghost use Rattle.lines.specs.Reading.{recordMade};
 
-fn read_content(out: &mut [u8], at: usize, order: Order, s: &[u8]) -> Written
+fn read_content(out: &mut [u8], at: usize, order: Order, sep: u8, s: &[u8]) -> Written
     ensures { λ r. ⌜ outcome r (now (out .exit))
-        ≡ placed (recordMade order (contentMeans (now (s .entry)))) (now (out .entry)) at ⌝ }
+        ≡ placed (recordMade order (contentMeans sep (now (s .entry)))) (now (out .entry)) at ⌝ }
 {
-    let judged = judge_content(s);
+    let judged = judge_content(s, sep);
     let fault = judged.fault;
     let line = judged.line;
     match fault {
@@ -24,10 +24,10 @@ fn read_content(out: &mut [u8], at: usize, order: Order, s: &[u8]) -> Written
     }
 }
 
-pub fn read_in(out: &mut [u8], at: usize, order: Order, line: &[u8]) -> Written
+pub fn read_in(out: &mut [u8], at: usize, order: Order, sep: u8, line: &[u8]) -> Written
     ensures { λ r. ⌜ outcome r (now (out .exit))
-        ≡ placed (recordMade order (lineMeaning (now (line .entry)))) (now (out .entry)) at ⌝ }
+        ≡ placed (recordMade order (lineMeaningBy sep (now (line .entry)))) (now (out .entry)) at ⌝ }
 {
     let end = line.len() - ending_of(line);
-    read_content(out, at, order, &line[..end])
+    read_content(out, at, order, sep, &line[..end])
 }

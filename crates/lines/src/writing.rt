@@ -17,11 +17,12 @@ ghost use Rattle.output.specs.Placed.{outcome, placed};
 ghost use Rattle.line_layouts.specs.Entries.{entryOf, entriesOf, meaningOf, Within, AllWithin};
 ghost use Rattle.line_layouts.specs.Judging.{Says};
 ghost use Rattle.line_records.specs.Records.{meaning};
-ghost use Rattle.lines.specs.Writing.{entryAllowed, textMade};
+ghost use Rattle.line_layouts.specs.Names.{entryAllowed};
+ghost use Rattle.lines.specs.Writing.{textMade};
 
-fn said_allowed(source: &[u8], said: Said) -> bool
+fn said_allowed(sep: u8, source: &[u8], said: Said) -> bool
     requires { ⌜ Within (now source) said ⌝ }
-    ensures { λ r. ⌜ r ≡ entryAllowed (entryOf (now (source .entry)) said) ⌝ }
+    ensures { λ r. ⌜ r ≡ entryAllowed sep (entryOf (now (source .entry)) said) ⌝ }
 {
     match said {
         Said::Missing => true,
@@ -29,20 +30,20 @@ fn said_allowed(source: &[u8], said: Said) -> bool
         Said::Text(name) => {
             let at = name.at;
             let len = name.len;
-            part_allowed(source, at, len)
+            part_allowed(sep, source, at, len)
         }
     }
 }
 
-fn line_allowed(source: &[u8], line: Line) -> bool
+fn line_allowed(sep: u8, source: &[u8], line: Line) -> bool
     requires { ⌜ AllWithin (now source) line ⌝ }
-    ensures { λ r. ⌜ r ≡ each entryAllowed (entriesOf (now (source .entry)) line) ⌝ }
+    ensures { λ r. ⌜ r ≡ each (entryAllowed sep) (entriesOf (now (source .entry)) line) ⌝ }
 {
     let tag = line.tag;
     let count = column_count(tag);
     let mut j: usize = 0;
     while j < count {
-        if !said_allowed(source, said_at(line, j)) {
+        if !said_allowed(sep, source, said_at(line, j)) {
             return false;
         }
         j += 1;
@@ -50,27 +51,27 @@ fn line_allowed(source: &[u8], line: Line) -> bool
     true
 }
 
-fn write_said(out: &mut [u8], at: usize, source: &[u8], line: Line) -> Written
+fn write_said(out: &mut [u8], at: usize, sep: u8, source: &[u8], line: Line) -> Written
     requires { ⌜ AllWithin (now source) line ⌝ }
     ensures { λ r. ⌜ outcome r (now (out .exit))
-        ≡ placed (textMade (Says (meaningOf (now (source .entry)) line))) (now (out .entry)) at ⌝ }
+        ≡ placed (textMade sep (Says (meaningOf (now (source .entry)) line))) (now (out .entry)) at ⌝ }
 {
-    if line_allowed(source, line) {
-        place(out, at, Layout::Text, source, line)
+    if line_allowed(sep, source, line) {
+        place(out, at, Layout::Text(sep), source, line)
     } else {
         Written::Refused(Answer::NameNotText)
     }
 }
 
-pub fn write_in(out: &mut [u8], at: usize, order: Order, record: &[u8]) -> Written
+pub fn write_in(out: &mut [u8], at: usize, order: Order, sep: u8, record: &[u8]) -> Written
     ensures { λ r. ⌜ outcome r (now (out .exit))
-        ≡ placed (textMade (meaning order (now («record» .entry)))) (now (out .entry)) at ⌝ }
+        ≡ placed (textMade sep (meaning order (now («record» .entry)))) (now (out .entry)) at ⌝ }
 {
     let judged = judge_record(order, record);
     let fault = judged.fault;
     let line = judged.line;
     match fault {
         Fault::Found(answer) => Written::Refused(answer),
-        Fault::None => write_said(out, at, &record[4..], line),
+        Fault::None => write_said(out, at, sep, &record[4..], line),
     }
 }

@@ -10,24 +10,28 @@ use Rattle.rows.specs.Counts.{plus}
 use Rattle.rising.specs.Rising.{risingFrom, rising, rank, held, allBelow, insertAt, removeAt}
 use Rattle.session.specs.Session as session
 use Rattle.session.specs.Session.{partsRight}
-use Rattle.session.specs.Judge.{judgeIn, judgeFirst, judgePir, judgePrr, judgeLater, judge}
+use Rattle.settling.specs.Settling.{changed}
+use Rattle.first_record.specs.First.{judgeIn, judgeFirst}
+use Rattle.later_records.specs.Later.{judgePir, judgePrr, judgeLater}
+use Rattle.judging.specs.Judge.{judge}
 use Rattle.frames.specs.Frames.{isRecord}
 use Rattle.kinds.specs.Kinds.{named, hasType, beyondTable, kindOf}
 use Rattle.bodies.specs.Bodies.{readBody}
-use Rattle.bodies.specs.Values.{softBinFits}
+use Rattle.values.specs.Values.{softBinFits}
 use Rattle.output.specs.Placed.{placedAt}
 use Rattle.digits.specs.Digits.{digits, isDigit, numeral}
 use Rattle.line_layouts.specs.Names.{allowed}
 use Rattle.line_layouts.specs.Layouts.{laid}
-use Rattle.line_texts.specs.Texts.{ending, tagOf, sitesFit, contentMeans}
+use Rattle.line_layouts.specs.Fitting.{sits}
+use Rattle.line_texts.specs.Texts.{ending, tagOf, contentMeans}
 use Rattle.line_texts.specs.Pieces.{split, pieceFits, entryIn, fieldsFit, entriesIn}
 use Rattle.marked.specs.Marked.{table, Marked}
 
 pub marked-cases : Marked
 unfolding table sound rowsSound slotsSound slotSound promisedFrom unfilled granted rowTaken resultedIf settled
     delivered openSlot deliver rowAt reported heldBy sumBy rowRight rowsRight countedMore countedNew counted plus
-    risingFrom rising rank held allBelow insertAt removeAt session.sound partsRight judgeIn judgeFirst judgePir
-    judgePrr judgeLater judge isRecord named kindOf readBody softBinFits closeSlot slotDropped hasType beyondTable
-    placedAt digits isDigit numeral allowed laid ending tagOf sitesFit contentMeans split pieceFits entryIn fieldsFit
+    risingFrom rising rank held allBelow insertAt removeAt session.sound partsRight changed judgeIn judgeFirst
+    judgePir judgePrr judgeLater judge isRecord named kindOf readBody softBinFits closeSlot slotDropped hasType beyondTable
+    placedAt digits isDigit numeral allowed laid sits ending tagOf contentMeans split pieceFits entryIn fieldsFit
     entriesIn
 marked-cases = refl

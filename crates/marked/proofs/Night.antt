@@ -10,30 +10,33 @@ use Rattle.rows.specs.Counts.{plus}
 use Rattle.rising.specs.Rising.{risingFrom, rising, rank, held, allBelow, insertAt, removeAt}
 use Rattle.session.specs.Session as session
 use Rattle.session.specs.Session.{partsRight}
-use Rattle.session.specs.Judge.{judgeIn, judgeFirst, judgePir, judgePrr, judgeLater, judge}
+use Rattle.settling.specs.Settling.{changed}
+use Rattle.first_record.specs.First.{judgeIn, judgeFirst}
+use Rattle.later_records.specs.Later.{judgePir, judgePrr, judgeLater}
+use Rattle.judging.specs.Judge.{judge}
 use Rattle.frames.specs.Frames.{isRecord}
 use Rattle.kinds.specs.Kinds.{named, kindOf}
 use Rattle.bodies.specs.Bodies.{readBody}
-use Rattle.bodies.specs.Values.{softBinFits}
+use Rattle.values.specs.Values.{softBinFits}
 use Rattle.marked.specs.Night.{NightAnswers, NightTally, NightAssured}
 
 pub night-answers : NightAnswers
 unfolding sound rowsSound slotsSound slotSound promisedFrom unfilled granted rowTaken resultedIf settled delivered
     openSlot deliver rowAt reported heldBy sumBy rowRight rowsRight countedMore countedNew counted plus risingFrom
-    rising rank held allBelow insertAt removeAt session.sound partsRight judgeIn judgeFirst judgePir judgePrr
-    judgeLater judge isRecord named kindOf readBody softBinFits
+    rising rank held allBelow insertAt removeAt session.sound partsRight changed judgeIn judgeFirst judgePir
+    judgePrr judgeLater judge isRecord named kindOf readBody softBinFits
 night-answers = refl
 
 pub night-tally : NightTally
 unfolding sound rowsSound slotsSound slotSound promisedFrom unfilled granted rowTaken resultedIf settled delivered
     openSlot deliver rowAt reported heldBy sumBy rowRight rowsRight countedMore countedNew counted plus risingFrom
-    rising rank held allBelow insertAt removeAt session.sound partsRight judgeIn judgeFirst judgePir judgePrr
-    judgeLater judge isRecord named kindOf readBody softBinFits
+    rising rank held allBelow insertAt removeAt session.sound partsRight changed judgeIn judgeFirst judgePir
+    judgePrr judgeLater judge isRecord named kindOf readBody softBinFits
 night-tally = refl
 
 pub night-assured : NightAssured
 unfolding sound rowsSound slotsSound slotSound promisedFrom unfilled granted rowTaken resultedIf settled delivered
     openSlot deliver rowAt reported heldBy sumBy rowRight rowsRight countedMore countedNew counted plus risingFrom
-    rising rank held allBelow insertAt removeAt session.sound partsRight judgeIn judgeFirst judgePir judgePrr
-    judgeLater judge isRecord named kindOf readBody softBinFits
+    rising rank held allBelow insertAt removeAt session.sound partsRight changed judgeIn judgeFirst judgePir
+    judgePrr judgeLater judge isRecord named kindOf readBody softBinFits
 night-assured = refl

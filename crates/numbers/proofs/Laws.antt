@@ -102,12 +102,7 @@ part-bytes s at n low k = go (ltb k n) refl
               (omega (arith, ltb-false k n e, length-take n (drop at s))),
         )
 
--- one byte is worth itself in either order
-pub one-byte : (order : Order) (b : ℕ) → number order (b ∷ []) ≡ b
-one-byte HighFirst b = omega arith
-one-byte LowFirst b = omega arith
-
--- and is written as itself
+-- one byte is written as itself in either order
 pub one-written : (order : Order) (n : ℕ) → n < 256 → written order 1 n ≡ n ∷ []
 one-written HighFirst n h = ap (λ (b : ℕ). b ∷ []) (omega arith)
 one-written LowFirst n h = ap (λ (b : ℕ). b ∷ []) (omega arith)

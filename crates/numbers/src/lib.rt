@@ -52,14 +52,6 @@ fn worth4(a: u8, b: u8, c: u8, d: u8) -> u32
     wide(a) + 256 * (wide(b) + 256 * (wide(c) + 256 * wide(d)))
 }
 
-// The U*1 at the start of a part: one byte is worth the same in either order.
-pub fn u1(order: Order, s: &[u8]) -> u8
-    requires { ⌜ 1 ≤ length (now s) ⌝ }
-    ensures { λ r. ⌜ r ≡ number order (front 1 0 (now (s .entry))) ⌝ }
-{
-    s[0]
-}
-
 // The U*2 at the start of a part.
 pub fn u2(order: Order, s: &[u8]) -> u16
     requires { ⌜ 2 ≤ length (now s) ⌝ }

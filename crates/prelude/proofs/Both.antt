@@ -1,13 +1,11 @@
 -- Of two tests that both hold, each holds.
 -- Assumes nothing.
-use mathlib.Core.Path.{_≡_, refl}
-use mathlib.Core.Bool.{Bool, true, false}
+use mathlib.Core.List.{[], _∷_}
 use Rattle.prelude.specs.Both.{BothLeft, BothRight}
+use Rattle.prelude.proofs.All.{all-at}
 
 pub both-left : BothLeft
-both-left true b e = refl
-both-left false b e = e
+both-left a b e = all-at (a ∷ b ∷ []) e 0
 
 pub both-right : BothRight
-both-right true b e = e
-both-right false b e = let never : _≡_ {A = Bool} false true = e in cc
+both-right a b e = all-at (a ∷ b ∷ []) e 1

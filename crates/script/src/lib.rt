@@ -1,21 +1,38 @@
-// What a line of the desk asks for: its words, what they say, and the calls by numbers alone and on count lines. No
-// contract can say what is written to standard output, so the functions that answer promise nothing.
-mod calling;
-mod count_lines;
-mod parsing;
-mod text;
+// The words of a line of the desk, and what each says: where it ends, a verb, a decimal number, bytes in hexadecimal.
+// It knows of no house: any program that reads lines can stand on it.
+mod decimals;
+mod hex;
+mod words;
 
-pub use calling::close_call;
-pub use calling::figures_call;
-pub use calling::open_call;
-pub use calling::said;
-pub use count_lines::line_call;
-pub use parsing::Number;
-pub use parsing::Verb;
-pub use parsing::is_hex;
-pub use parsing::is_no_bytes;
-pub use parsing::number_of;
-pub use parsing::unhex;
-pub use parsing::verb_of;
-pub use parsing::word_end;
-pub use text::no_call;
+pub use decimals::number_of;
+pub use decimals::wide_of;
+pub use hex::is_hex;
+pub use hex::is_no_bytes;
+pub use hex::unhex;
+pub use words::verb_of;
+pub use words::word_end;
+
+// What a line asks for, by its first word.
+pub enum Verb {
+    Fresh,
+    Open,
+    Deliver,
+    Report,
+    Close,
+    Figures,
+    Write,
+    Read,
+    Other,
+}
+
+// A word as a number.
+pub enum Number {
+    Is(u32),
+    Not,
+}
+
+// A word as a number that may be as large as any place in memory.
+pub enum Wide {
+    Is(u64),
+    Not,
+}

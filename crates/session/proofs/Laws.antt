@@ -1,187 +1,25 @@
--- Laws of the judgement as the functions' proofs cite them: one an answer, each under the tests before it, in the
--- order of the checks.
+-- Laws of a session by itself: what soundness tells, as the functions' proofs and the judgement's laws cite it.
 -- Assumes nothing.
-use mathlib.Core.Path.{_≡_, subst}
+use mathlib.Core.Path.{_≡_, refl}
 use mathlib.Core.Bool.{true, false, _&&_}
-use mathlib.Core.List.{List}
-use Prim.Native.Nat.{ℕ, zero, suc, _+_, _-_, _≤_, _<_}
+use mathlib.Core.List.{List, [], _∷_}
+use Prim.Native.Nat.{ℕ, suc, _-_, _≤_, _<_}
 use native.Mathlib.Omega.{arith}
-use borrow.Author.Tests.{le-leb, lt-leb, lt-ltb, le-ltb, eq-eqb, ne-eqb}
-use lib.Dec.{eqb, ltb}
+use borrow.Author.Tests.{le-leb, lt-leb, leb-true, eq-eqb, ne-eqb}
+use lib.Dec.{eqb, leb, ltb}
 use lib.ListN.{length, getD, take}
-use lib.Seq.{getD-drop, getD-take, length-take-le}
-use Rattle.answers.specs.declared.Answer.the-variants as answer
-use Rattle.numbers.specs.declared.Order.{Order}
-use Rattle.numbers.specs.Orders.{orderOf}
-use Rattle.kinds.specs.declared.Kind.{Kind}
-use Rattle.kinds.specs.Kinds.{kindOf, known}
-use Rattle.frames.specs.Frames.{recLen, recTyp, recSub, body, isRecord}
-use Rattle.bodies.specs.declared.Record.{Record}
-use Rattle.bodies.specs.declared.Reading.the-variants.{Fits, Misfit}
-use Rattle.bodies.specs.Bodies.{readBody}
+use lib.Seq.{getD-take, length-take-le}
+use Rattle.prelude.proofs.All.{all-at}
 use Rattle.order.specs.declared.Place.{Place}
-use Rattle.order.specs.declared.Step.the-variants.{To, OutOfPlace}
-use Rattle.order.specs.Order.{goes}
-use Rattle.rising.specs.Rising.{risingFrom, rising, rank, held, allBelow}
+use Rattle.order.specs.declared.Place.the-variants.{Start, Header, Lot, Setup, Body, Ended}
+use Rattle.order.specs.Laws.{before, ended}
+use Rattle.rising.specs.Rising.{risingFrom, rising, allBelow}
 use Rattle.rising.proofs.Laws.{below-last}
 use Rattle.session.specs.declared.Session.{Session}
 use Rattle.session.specs.declared.Standing.{Standing}
-use Rattle.session.specs.declared.Verdict.{Verdict}
-use Rattle.session.specs.declared.Verdict.the-variants.{Refused, Taken, Opened, Wanted}
-use Rattle.session.specs.Session.{mostOpen, mostResults, pastParts, isStart, nothingYet, standsRight}
-use Rattle.session.specs.Session.{partsRight, sound, Kept}
-use Rattle.session.specs.Laws.{Within}
-use Rattle.session.specs.After.{after, verdictOn, judged}
-use Rattle.session.specs.Judge.{inOrder, judgeIn, judgeOrdered, judgeFirst, at, withPart, withResult}
-use Rattle.session.specs.Judge.{judgePir, judgePrr, judgeMrr, judgeSaid, judgeLater, judge}
-
--- ---- the first record
-
-module _ (st : Standing) (rec : List ℕ) (order : Order) (n : ℕ) (is : n ≡ recLen order rec) where
-  pub in-length : (n ≡ 2 → ⊥) → judgeIn st rec order ≡ Refused answer.NotOneRecord
-  unfolding judgeIn
-  in-length e = rw (← is, ne-eqb n 2 e)
-
-  module _ (two : n ≡ 2) where
-    pub in-version : (getD rec 5 0 ≡ 4 → ⊥) → judgeIn st rec order ≡ Refused answer.WrongVersion
-    unfolding judgeIn
-    in-version e = rw (← is, eq-eqb n 2 two, getD-drop 4 rec 1 0, ne-eqb (getD rec 5 0) 4 e)
-
-    pub in-taken : getD rec 5 0 ≡ 4 → judgeIn st rec order ≡ Taken (inOrder st order)
-    unfolding judgeIn
-    in-taken e = rw (← is, eq-eqb n 2 two, getD-drop 4 rec 1 0, eq-eqb (getD rec 5 0) 4 e)
-
-module _ (st : Standing) (rec : List ℕ) where
-  pub first-short : length rec < 4 → judgeFirst st rec ≡ Refused answer.NotOneRecord
-  unfolding judgeFirst
-  first-short h = rw (lt-leb 4 (length rec) h)
-
-  module _ (h : 4 ≤ length rec) where
-    pub first-type : (getD rec 2 0 ≡ 0 → ⊥) → judgeFirst st rec ≡ Refused answer.OutOfPlace
-    unfolding judgeFirst
-    first-type e = rw (le-leb 4 (length rec) h, ne-eqb (getD rec 2 0) 0 e)
-
-    module _ (typ : getD rec 2 0 ≡ 0) where
-      pub first-sub : (getD rec 3 0 ≡ 10 → ⊥) → judgeFirst st rec ≡ Refused answer.OutOfPlace
-      unfolding judgeFirst
-      first-sub e = rw (le-leb 4 (length rec) h, eq-eqb (getD rec 2 0) 0 typ, ne-eqb (getD rec 3 0) 10 e)
-
-      module _ (sub : getD rec 3 0 ≡ 10) where
-        pub first-length : (length rec ≡ 6 → ⊥) → judgeFirst st rec ≡ Refused answer.NotOneRecord
-        unfolding judgeFirst
-        first-length e =
-            rw (
-              le-leb 4 (length rec) h,
-              eq-eqb (getD rec 2 0) 0 typ,
-              eq-eqb (getD rec 3 0) 10 sub,
-              ne-eqb (length rec) 6 e,
-            )
-
-        pub first-framed : length rec ≡ 6 → judgeFirst st rec ≡ judgeOrdered st rec (orderOf (getD rec 4 0))
-        unfolding judgeFirst
-        first-framed e =
-            rw (
-              le-leb 4 (length rec) h,
-              eq-eqb (getD rec 2 0) 0 typ,
-              eq-eqb (getD rec 3 0) 10 sub,
-              eq-eqb (length rec) 6 e,
-              getD-drop 4 rec 0 0,
-            )
-
--- ---- parts
-
--- a session that holds a part has one open
-pub held-opened : (part opened : ℕ) (cells : List ℕ) → held part (take opened cells) ≡ true → 1 ≤ opened
-unfolding held
-held-opened part zero cells e = let never : _≡_ {A = ℕ} 0 1 = cc in omega arith
-held-opened part (suc n) cells e = omega arith
-
-module _ (st : Standing) (parts : List ℕ) (part : ℕ) where
-  pub pir-open : held part parts ≡ true → judgePir st parts part ≡ Refused answer.PartOpen
-  unfolding judgePir
-  pir-open e = rw e
-
-  module _ (new : held part parts ≡ false) where
-    pub pir-many : mostOpen ≤ st .opened → judgePir st parts part ≡ Refused answer.TooManyParts
-    unfolding judgePir
-    pir-many h = rw (new, le-ltb (st .opened) mostOpen h)
-
-    pub pir-opens : st .opened < mostOpen → judgePir st parts part ≡ Opened (withPart st) (rank part parts) part
-    unfolding judgePir
-    pir-opens h = rw (new, lt-ltb (st .opened) mostOpen h)
-
-  module _ (key : ℕ) where
-    pub prr-none : held part parts ≡ false → judgePrr st parts part key ≡ Refused answer.PartNotOpen
-    unfolding judgePrr
-    prr-none e = rw e
-
-    module _ (there : held part parts ≡ true) where
-      pub prr-many : mostResults ≤ st .results → judgePrr st parts part key ≡ Refused answer.TooManyResults
-      unfolding judgePrr
-      prr-many h = rw (there, le-ltb (st .results) mostResults h)
-
-      pub prr-wants : st .results < mostResults
-          → judgePrr st parts part key ≡ Wanted (withResult st) (rank part parts) key
-      unfolding judgePrr
-      prr-wants h = rw (there, lt-ltb (st .results) mostResults h)
-
-module _ (st : Standing) where
-  pub mrr-open : (st .opened ≡ 0 → ⊥) → judgeMrr st ≡ Refused answer.NotFinished
-  unfolding judgeMrr
-  mrr-open e = rw (ne-eqb (st .opened) 0 e)
-
-  module _ (none : st .opened ≡ 0) where
-    pub mrr-ends : st .pcr ≡ true → judgeMrr st ≡ Taken st
-    unfolding judgeMrr
-    mrr-ends e = rw (eq-eqb (st .opened) 0 none, e)
-
-    pub mrr-no-pcr : st .pcr ≡ false → judgeMrr st ≡ Refused answer.NotFinished
-    unfolding judgeMrr
-    mrr-no-pcr e = rw (eq-eqb (st .opened) 0 none, e)
-
--- ---- later records
-
--- what is lent is kept where a stream goes on
-pub kept-at : (st : Standing) (cells : List ℕ) (place : Place) → Kept st cells → Kept (at st place) cells
-kept-at st cells place k = record { few = k .few; within = k .within; rises = k .rises }
-
-module _ (st : Standing) (parts rec : List ℕ) where
-  pub later-frame : isRecord (st .order) rec ≡ false → judgeLater st parts rec ≡ Refused answer.NotOneRecord
-  unfolding judgeLater
-  later-frame e = rw e
-
-  module _ (framed : isRecord (st .order) rec ≡ true) (kind : Kind) (named : kind ≡ kindOf (recTyp rec) (recSub rec))
-    where
-      pub later-unknown : known kind ≡ false → judgeLater st parts rec ≡ Refused answer.UnknownKind
-      unfolding judgeLater
-      later-unknown e = rw (framed, ← named, e)
-
-      module _ (is-known : known kind ≡ true) where
-        pub later-out : goes (st .place) kind ≡ OutOfPlace → judgeLater st parts rec ≡ Refused answer.OutOfPlace
-        unfolding judgeLater
-        later-out e = rw (framed, ← named, is-known, e)
-
-        module _ (place : Place) (to : goes (st .place) kind ≡ To place) where
-          pub later-misfit : readBody (st .order) kind (body rec) ≡ Misfit
-              → judgeLater st parts rec ≡ Refused answer.BodyMisfit
-          unfolding judgeLater
-          later-misfit e = rw (framed, ← named, is-known, to, e)
-
-          pub later-said : (said : Record) → readBody (st .order) kind (body rec) ≡ Fits said
-              → judgeLater st parts rec ≡ judgeSaid (at st place) parts said
-          unfolding judgeLater
-          later-said said e = rw (framed, ← named, is-known, to, e)
-
--- ---- both
-
-module _ (st : Standing) (parts rec : List ℕ) where
-  pub judge-at-start : isStart (st .place) ≡ true → judge st parts rec ≡ judgeFirst st rec
-  unfolding judge
-  judge-at-start e = rw e
-
-  pub judge-further : isStart (st .place) ≡ false → judge st parts rec ≡ judgeLater st parts rec
-  unfolding judge
-  judge-further e = rw e
+use Rattle.session.specs.Session.{mostOpen, pastParts, isStart, nothingYet, standsRight, partsRight}
+use Rattle.session.specs.Session.{conditions, sound}
+use Rattle.session.specs.Laws.{BegunSound, SoundLent}
 
 -- ---- a sound session
 
@@ -240,22 +78,82 @@ module _ (s : Session) where
   unfolding sound
   sound-stands e = rw e
 
--- ---- any session
+-- ---- what soundness tells, and what tells it
 
-module _ (s : Session) (rec : List ℕ) where
-  pub judged-unsound : sound s ≡ false → judged s rec ≡ record { verdict = Refused answer.NotSound; session = s }
-  unfolding judged
-  judged-unsound e = rw e
+pub record Parts (opened : ℕ) (cells : List ℕ) : Type 0 where
+  pub few : opened ≤ mostOpen
+  pub rises : rising (take opened cells) ≡ true
+  pub below : allBelow pastParts (take opened cells) ≡ true
 
-  module _ (e : sound s ≡ true) {v : Verdict} {next : Session} where
-    pub judged-settled : v ≡ verdictOn s rec → next ≡ after s v → record { verdict = v; session = next } ≡ judged s rec
-    unfolding judged
-    judged-settled is then = rw (e, then, is)
+parts-told : (opened : ℕ) (cells : List ℕ) → partsRight opened cells ≡ true → Parts opened cells
+unfolding partsRight
+parts-told opened cells e =
+    let few = leb opened mostOpen in
+    let at = all-at (few ∷ rising (take opened cells) ∷ allBelow pastParts (take opened cells) ∷ []) e in
+    record { few = leb-true opened mostOpen (at 0); rises = at 1; below = at 2 }
 
--- what is known of a verdict that opens a part or asks for a row
-module _ (opened : ℕ) {v : Verdict} {st : Standing} {rank : ℕ} (within : Within opened v) where
-  pub within-opened : {part : ℕ} → v ≡ Opened st rank part → (rank ≤ opened) × (opened < mostOpen)
-  within-opened e = subst (Within opened) e within
+pub parts-right : (opened : ℕ) (cells : List ℕ) → Parts opened cells → partsRight opened cells ≡ true
+unfolding partsRight
+parts-right opened cells p = rw (le-leb opened mostOpen (p .few), p .rises, p .below)
 
-  pub within-wanted : {key : ℕ} → v ≡ Wanted st rank key → rank + 1 ≤ opened
-  within-wanted e = subst (Within opened) e within
+module _ (s : Session) where
+  pub sound-right : partsRight (s .standing .opened) (s .parts) ≡ true
+      → standsRight (s .standing .place) (s .standing) ≡ true
+      → sound s ≡ true
+  unfolding sound
+  sound-right p q = rw (p, q)
+
+  module _ (e : sound s ≡ true) where
+    pub sound-parts-told : Parts (s .standing .opened) (s .parts)
+    unfolding sound
+    sound-parts-told = parts-told (s .standing .opened) (s .parts) (all-at (conditions s) e 0)
+
+    pub sound-stands-told : standsRight (s .standing .place) (s .standing) ≡ true
+    unfolding sound
+    sound-stands-told = all-at (conditions s) e 1
+
+pub sound-lent : SoundLent
+sound-lent s long e =
+    let p = sound-parts-told s e in
+    record { few = p .few; within = omega (arith, p .few); rises = p .rises }
+
+pub begun-sound : BegunSound
+unfolding sound partsRight rising risingFrom allBelow
+begun-sound = refl
+
+-- ---- what a place asks
+
+-- .. as two questions
+pub stands-from : (q : Place) (st : Standing) → (before q ≡ true → nothingYet st ≡ true)
+    → (ended q ≡ true → (eqb (st .opened) 0 && st .pcr) ≡ true) → standsRight q st ≡ true
+stands-from Start st b e = b refl
+stands-from Header st b e = b refl
+stands-from Lot st b e = b refl
+stands-from Setup st b e = b refl
+stands-from Body st b e = refl
+stands-from Ended st b e = e refl
+
+pub stands-before : (p : Place) (st : Standing) → standsRight p st ≡ true → before p ≡ true → nothingYet st ≡ true
+stands-before Start st e h = e
+stands-before Header st e h = e
+stands-before Lot st e h = e
+stands-before Setup st e h = e
+stands-before Body st e h = let never : _≡_ {A = ℕ} 0 1 = cc in absurd (omega arith)
+stands-before Ended st e h = let never : _≡_ {A = ℕ} 0 1 = cc in absurd (omega arith)
+
+pub start-before : (p : Place) → isStart p ≡ true → before p ≡ true
+start-before Start e = refl
+start-before Header e = refl
+start-before Lot e = refl
+start-before Setup e = refl
+start-before Body e = e
+start-before Ended e = e
+
+-- a place behind the start
+pub past-start : (q : Place) → (q ≡ Start → ⊥) → isStart q ≡ false
+past-start Start h = absurd (h refl)
+past-start Header h = refl
+past-start Lot h = refl
+past-start Setup h = refl
+past-start Body h = refl
+past-start Ended h = refl

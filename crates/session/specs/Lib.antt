@@ -1,5 +1,3 @@
 pub mod Session
-pub mod Judge
-pub mod After
-pub mod Results
+pub mod Verdicts
 pub mod Laws

@@ -3,15 +3,18 @@
 --   partOf, keyOf   a part and a row's key as numbers that rise as head, then site, then bin do
 --   partsOf         a session's open parts
 --   begun           a session that has followed nothing yet
---   sound           document 01's conditions on a sound session
---   Kept            what a session's parts are when they are lent
+--   sound           document 01's conditions on a sound session, all of a list
+--   isStart         whether a stream has not begun, and Follows what it is once it has
+--   LentParts       what a session's parts are when they are lent
 -- Assumes nothing.
 use Prim.Native.Nat.{ℕ, _+_, _*_, _≤_}
 use mathlib.Core.Path.{_≡_}
 use mathlib.Core.Bool.{Bool, true, false, not, _&&_}
-use mathlib.Core.List.{List}
+use mathlib.Core.List.{List, [], _∷_}
 use lib.Dec.{eqb, leb}
 use lib.ListN.{length, take, replicate}
+use Rattle.prelude.specs.All.{all}
+use Rattle.numbers.specs.declared.Order.{Order}
 use Rattle.numbers.specs.declared.Order.the-variants.{HighFirst}
 use Rattle.order.specs.declared.Place.{Place}
 use Rattle.order.specs.declared.Place.the-variants.{Start, Header, Lot, Setup, Body, Ended}
@@ -48,6 +51,10 @@ isStart Setup = false
 isStart Body = false
 isStart Ended = false
 
+-- a stream that has begun, in a byte order
+abbrev pub Follows : Order → Standing → Type 0
+Follows order st = (isStart (st .place) ≡ false) × (st .order ≡ order)
+
 -- a slot opened starts anew
 abbrev pub begun : Session
 begun =
@@ -58,7 +65,7 @@ begun =
 
 -- no part, PRR or PCR
 abbrev pub nothingYet : Standing → Bool
-nothingYet st = eqb (st .opened) 0 && (not (st .pcr) && eqb (st .results) 0)
+nothingYet st = all (eqb (st .opened) 0 ∷ not (st .pcr) ∷ eqb (st .results) 0 ∷ [])
 
 -- before the body of a stream there is nothing yet; after MRR no part is open and a PCR was accepted
 abbrev pub standsRight : Place → Standing → Bool
@@ -72,14 +79,17 @@ standsRight Ended st = eqb (st .opened) 0 && st .pcr
 -- open parts are distinct, at most 32, heads at most 254; rising, they are distinct
 unfoldable pub partsRight : ℕ → List ℕ → Bool
 partsRight opened cells =
-    leb opened mostOpen && (rising (take opened cells) && allBelow pastParts (take opened cells))
+    all (leb opened mostOpen ∷ rising (take opened cells) ∷ allBelow pastParts (take opened cells) ∷ [])
 
 -- A house is sound, its conditions on a session
+abbrev pub conditions : Session → List Bool
+conditions s = partsRight (s .standing .opened) (s .parts) ∷ standsRight (s .standing .place) (s .standing) ∷ []
+
 unfoldable pub sound : Session → Bool
-sound s = partsRight (s .standing .opened) (s .parts) && standsRight (s .standing .place) (s .standing)
+sound s = all (conditions s)
 
 -- what is known of the cells that a sound session's parts are lent in
-pub record Kept (st : Standing) (cells : List ℕ) : Type 0 where
+pub record LentParts (st : Standing) (cells : List ℕ) : Type 0 where
   pub few : st .opened ≤ mostOpen
   pub within : st .opened ≤ length cells
   pub rises : rising (take (st .opened) cells) ≡ true

@@ -1,21 +1,14 @@
-// One session follows one stream: what a delivered record does to it. Document 01, "Order of checks", "Order of a
-// stream" and a session's part of "The house, its slots and its rows". Nothing here knows of a house: whether there
-// is room (13) is judged elsewhere, and last.
-mod first;
-mod later;
+// A session: document 01, "The house, its slots and its rows", an open slot without its rows; and what a record may do
+// to one, as a verdict says it. Nothing here knows of a house: whether there is room (13) is judged elsewhere, and
+// last.
 mod sound;
 
 use answers::Answer;
 use numbers::Order;
 use order::Place;
 ghost use mathlib.Core.Path.{_≡_};
-ghost use Prim.Native.Nat.{_+_, _≤_, _<_};
-ghost use lib.ListN.{length, take};
-ghost use Rattle.session.specs.Session.{Kept, isStart, begun};
-ghost use Rattle.session.specs.Judge.{judge};
-ghost use Rattle.session.specs.Laws.{Within};
-ghost use Rattle.session.specs.After.{partOpened, partClosed, after, judged};
-pub use first::judge_first;
+ghost use Rattle.session.specs.Session.{isStart, begun};
+ghost use Rattle.session.specs.Verdicts.{verdictNumber};
 pub use sound::is_sound;
 pub use sound::nothing_yet;
 pub use sound::parts_right;
@@ -36,26 +29,30 @@ pub struct Session {
     pub parts: [u64; 32],
 }
 
-// What a record does to a session. A part opens or closes at its rank among the open ones.
+// What an accepted record makes of a session: its standing after it, and what becomes of its open parts. Those that
+// judge and settle alone look into it: a house hands it back to be settled, so that a kind with an effect of its own is
+// no business of a house.
+pub enum Change {
+    // The parts stay.
+    Stands(Standing),
+    // A part opens, at its rank among the open ones.
+    Opens(Standing, usize, u64),
+    // The part at a rank closes.
+    Closes(Standing, usize),
+}
+
+// What a record does to a session.
 pub enum Verdict {
     // Refused, with its number.
     Refused(Answer),
-    // Accepted: the standing after it.
-    Taken(Standing),
-    // Accepted: the standing after it, the part that it opens and its rank.
-    Opened(Standing, usize, u64),
-    // A part result that asks for a row under this key: the standing after it and the rank of the part that it
-    // closes, if the row is granted.
-    Wanted(Standing, usize, u32),
+    // Accepted.
+    Taken(Change),
+    // A part result that asks for a row under this key: it changes the session if the row is granted.
+    Wanted(Change, u32),
 }
 
-// A verdict, and the whole session after it; of a part result, if its row is granted.
-pub struct Judged {
-    pub verdict: Verdict,
-    pub session: Session,
-}
-
-fn is_start(place: Place) -> bool
+// Whether a stream has not begun: its first record is judged by rules of its own.
+pub fn is_start(place: Place) -> bool
     ensures { λ r. ⌜ r ≡ isStart place ⌝ }
 {
     match place {
@@ -68,17 +65,14 @@ fn is_start(place: Place) -> bool
     }
 }
 
-// What a record does to a sound session whose parts are lent: nothing is copied, and nothing is tested that the
-// caller knows. In the body, a record whose body is not read looks at no part.
-pub fn judge_lent(st: Standing, parts: &[u64], rec: &[u8]) -> Verdict
-    requires { ⌜ Kept st (now parts) ⌝ }
-    ensures { λ r. ⌜ r ≡ judge st (take (st .opened) (now (parts .entry))) (now (rec .entry)) ⌝ }
+// The number of a verdict. A part result that passes all checks but the last is still to be judged for room.
+pub fn verdict_number(verdict: Verdict) -> u8
+    ensures { λ r. ⌜ r ≡ verdictNumber verdict ⌝ }
 {
-    let place = st.place;
-    if is_start(place) {
-        first::judge_first(st, rec)
-    } else {
-        later::judge_later(st, parts, rec)
+    match verdict {
+        Verdict::Refused(answer) => answers::number(answer),
+        Verdict::Taken(_) => 0,
+        Verdict::Wanted(_, _) => 0,
     }
 }
 
@@ -99,75 +93,4 @@ impl Session {
             parts: [0; 32],
         }
     }
-}
-
-// A part put in at its rank among the open ones.
-pub fn open_part(parts: &mut [u64; 32], opened: usize, rank: usize, part: u64)
-    requires { ⌜ (length (now parts) ≡ 32) × (rank ≤ opened) × (opened < 32) ⌝ }
-    ensures { λ _. ⌜ now (parts .exit) ≡ partOpened (now (parts .entry)) opened rank part ⌝ }
-{
-    rising::insert(parts, opened, rank, part)
-}
-
-// The part at a rank among the open ones taken out.
-pub fn close_part(parts: &mut [u64; 32], opened: usize, rank: usize)
-    requires { ⌜ (length (now parts) ≡ 32) × (rank + 1 ≤ opened) × (opened ≤ 32) ⌝ }
-    ensures { λ _. ⌜ now (parts .exit) ≡ partClosed (now (parts .entry)) opened rank ⌝ }
-{
-    rising::remove(parts, opened, rank, 1)
-}
-
-// The session after a verdict on it.
-pub fn settle(session: Session, verdict: Verdict) -> Session
-    requires { ⌜ (session .standing .opened ≤ 32) × Within (session .standing .opened) verdict ⌝ }
-    ensures { λ r. ⌜ r ≡ after session verdict ⌝ }
-{
-    let mut s = session;
-    let before = s.standing;
-    let opened = before.opened;
-    match verdict {
-        Verdict::Refused(_) => s,
-        Verdict::Taken(st) => {
-            s.standing = st;
-            s
-        }
-        Verdict::Opened(st, rank, part) => {
-            open_part(&mut s.parts, opened, rank, part);
-            s.standing = st;
-            s
-        }
-        Verdict::Wanted(st, rank, _) => {
-            close_part(&mut s.parts, opened, rank);
-            s.standing = st;
-            s
-        }
-    }
-}
-
-// What a record does to any session: a session that is not sound is refused, and a refusal leaves it as it was.
-pub fn judge_record(session: Session, rec: &[u8]) -> Judged
-    ensures { λ r. ⌜ r ≡ judged session (now (rec .entry)) ⌝ }
-{
-    let s = session;
-    if is_sound(s) {
-        let st = s.standing;
-        let verdict = judge_cells(st, &s.parts, rec);
-        let next = settle(s, verdict);
-        return Judged {
-            verdict,
-            session: next,
-        };
-    }
-    Judged {
-        verdict: Verdict::Refused(Answer::NotSound),
-        session: s,
-    }
-}
-
-// The same as judge_lent, of the cells that a session holds.
-fn judge_cells(st: Standing, parts: &[u64; 32], rec: &[u8]) -> Verdict
-    requires { ⌜ Kept st (now parts) ⌝ }
-    ensures { λ r. ⌜ r ≡ judge st (take (st .opened) (now (parts .entry))) (now (rec .entry)) ⌝ }
-{
-    judge_lent(st, parts, rec)
 }

@@ -1,14 +1,14 @@
 // The tally program: document 01, "Tally program". One STDF stream on standard input, its text on standard output. All
-// that is judged or said is in `following`; this reads and writes.
-use following::Fate;
-use following::Stream;
-use following::begin;
-use following::finish;
-use following::follow;
+// that is judged or said is in `tallying`; this reads and writes.
+use tallying::Stream;
+use tallying::begin;
+use tallying::finish;
+use tallying::follow;
+use walking::Fate;
 ghost use mathlib.Core.Path.{_≡_};
 ghost use Prim.Native.Nat.{_+_, _≤_, _<_};
 ghost use lib.ListN.{length, take};
-ghost use Rattle.following.specs.Lent.{pastCount};
+ghost use Rattle.walking.specs.Lent.{pastCount};
 
 // Room for the bytes of an unfinished record, fewer than 65,536, and a chunk behind them.
 const BUFFER: usize = 327680;
@@ -26,8 +26,7 @@ fn is_going(s: Stream) -> bool {
     let fate = s.fate;
     match fate {
         Fate::Going => true,
-        Fate::Refused(_) => false,
-        Fate::TooLong => false,
+        Fate::Stopped(_) => false,
     }
 }
 

@@ -1,42 +1,131 @@
-// The names of kinds: document 01, "Record frame and kinds".
+// The names of kinds and of places: document 01, "Record frame and kinds" and "Order of a stream". All names stand in
+// one text, and a number tells which one is said.
 use crate::say;
 use kinds::Kind;
 use kinds::Remaining;
+use order::Place;
+ghost use Prim.Native.Nat.{_+_, _*_, _≤_};
+ghost use lib.ListN.{length};
 
-fn say_remaining(kind: Remaining) {
+fn remaining_number(kind: Remaining) -> usize
+    ensures { λ r. ⌜ r ≤ 24 ⌝ }
+{
     match kind {
-        Remaining::Pmr => say(b"PMR"),
-        Remaining::Pgr => say(b"PGR"),
-        Remaining::Plr => say(b"PLR"),
-        Remaining::Wir => say(b"WIR"),
-        Remaining::Wrr => say(b"WRR"),
-        Remaining::Wcr => say(b"WCR"),
-        Remaining::Tsr => say(b"TSR"),
-        Remaining::Ptr => say(b"PTR"),
-        Remaining::Mpr => say(b"MPR"),
-        Remaining::Ftr => say(b"FTR"),
-        Remaining::Bps => say(b"BPS"),
-        Remaining::Eps => say(b"EPS"),
-        Remaining::Gdr => say(b"GDR"),
-        Remaining::Dtr => say(b"DTR"),
+        Remaining::Pmr => 11,
+        Remaining::Pgr => 12,
+        Remaining::Plr => 13,
+        Remaining::Wir => 14,
+        Remaining::Wrr => 15,
+        Remaining::Wcr => 16,
+        Remaining::Tsr => 17,
+        Remaining::Ptr => 18,
+        Remaining::Mpr => 19,
+        Remaining::Ftr => 20,
+        Remaining::Bps => 21,
+        Remaining::Eps => 22,
+        Remaining::Gdr => 23,
+        Remaining::Dtr => 24,
+    }
+}
+
+fn kind_number(kind: Kind) -> usize
+    ensures { λ r. ⌜ r ≤ 26 ⌝ }
+{
+    match kind {
+        Kind::Far => 0,
+        Kind::Atr => 1,
+        Kind::Mir => 2,
+        Kind::Mrr => 3,
+        Kind::Pcr => 4,
+        Kind::Hbr => 5,
+        Kind::Sbr => 6,
+        Kind::Rdr => 7,
+        Kind::Sdr => 8,
+        Kind::Pir => 9,
+        Kind::Prr => 10,
+        Kind::Remaining(k) => remaining_number(k),
+        Kind::Custom => 25,
+        Kind::Unknown => 26,
+    }
+}
+
+// Where the name of a kind starts: all but the last two are three wide.
+fn kind_start(n: usize) -> usize
+    requires { ⌜ n ≤ 27 ⌝ }
+    ensures { λ r. ⌜ r ≤ 88 ⌝ }
+{
+    match n {
+        26 => 81,
+        27 => 88,
+        _ => 3 * n,
+    }
+}
+
+fn say_kind_part(from: usize, end: usize)
+    requires { ⌜ end ≤ 88 ⌝ }
+{
+    let names =
+        *b"FARATRMIRMRRPCRHBRSBRRDRSDRPIRPRRPMRPGRPLRWIRWRRWCRTSRPTRMPRFTRBPSEPSGDRDTRcustomunknown";
+    if from <= end {
+        say(&names[from..end]);
     }
 }
 
 pub fn say_kind(kind: Kind) {
+    let n = kind_number(kind);
+    say_kind_part(kind_start(n), kind_start(n + 1));
+}
+
+// The name of a kind, as wide as the widest.
+pub fn say_kind_wide(kind: Kind) {
+    say_kind(kind);
     match kind {
-        Kind::Far => say(b"FAR"),
-        Kind::Atr => say(b"ATR"),
-        Kind::Mir => say(b"MIR"),
-        Kind::Mrr => say(b"MRR"),
-        Kind::Pcr => say(b"PCR"),
-        Kind::Hbr => say(b"HBR"),
-        Kind::Sbr => say(b"SBR"),
-        Kind::Rdr => say(b"RDR"),
-        Kind::Sdr => say(b"SDR"),
-        Kind::Pir => say(b"PIR"),
-        Kind::Prr => say(b"PRR"),
-        Kind::Remaining(k) => say_remaining(k),
-        Kind::Custom => say(b"custom"),
-        Kind::Unknown => say(b"unknown"),
+        Kind::Custom => say(b" "),
+        Kind::Unknown => {}
+        _ => say(b"    "),
     }
+}
+
+fn place_number(place: Place) -> usize
+    ensures { λ r. ⌜ r ≤ 5 ⌝ }
+{
+    match place {
+        Place::Start => 0,
+        Place::Header => 1,
+        Place::Lot => 2,
+        Place::Setup => 3,
+        Place::Body => 4,
+        Place::Ended => 5,
+    }
+}
+
+// Bytes `from` to `end` of the names of places, each eight wide, its name last.
+fn say_place_part(from: usize, end: usize)
+    requires { ⌜ (from ≤ end) × (end ≤ 48) ⌝ }
+{
+    let names = *b"   start  header     lot   setup    body   ended";
+    say(&names[from..end]);
+}
+
+// How many blanks stand before the name of a place.
+fn blanks(n: usize) -> usize
+    ensures { λ r. ⌜ r ≤ 5 ⌝ }
+{
+    match n {
+        1 => 2,
+        2 => 5,
+        4 => 4,
+        _ => 3,
+    }
+}
+
+pub fn say_place(place: Place) {
+    let n = place_number(place);
+    say_place_part(8 * n + blanks(n), 8 * n + 8);
+}
+
+// A cell of a table with a column for each place: every one is eight wide, so that places stand below each other.
+pub fn say_cell(place: Place) {
+    let n = place_number(place);
+    say_place_part(8 * n, 8 * n + 8);
 }

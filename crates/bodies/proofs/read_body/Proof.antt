@@ -1,10 +1,7 @@
 -- `bodies::read_body` meets its contract: each arm is one case of `readBody`.
 -- Assumes nothing.
-use mathlib.Core.Path.{ap, _∙_}
-use mathlib.Core.Bool.{Bool}
 use borrow.Author.Needs.{needs}
-use Rattle.bodies.specs.declared.Record.the-variants as body
-use Rattle.bodies.specs.Bodies.{reading, readBody}
+use Rattle.bodies.specs.Bodies.{readBody}
 use Rattle.bodies.proofs.read_body.Statement.{statement}
 use Rattle.bodies.proofs.read_body.Tie as tie
 
@@ -18,9 +15,7 @@ returns-2 c = rw (c .before .enum-told2 .given .1) (c .read-mir .ensures)
 
 returns-3 : tie.Need-returns-3
 unfolding readBody
-returns-3 c =
-    rw (c .before .before .before .enum-told3 .given .1)
-    (c .reading-of .ensures ∙ ap (λ (t : Bool). reading t body.Mrr) (c .before .fits-table .ensures))
+returns-3 c = rw (c .before .enum-told3 .given .1) (c .read-mrr .ensures)
 
 returns-4 : tie.Need-returns-4
 unfolding readBody
@@ -83,14 +78,8 @@ read-mir-requires c κs = search needs
 enum-told-3 : tie.Need-enum-told-3
 enum-told-3 c = search needs
 
-slice-aggregate-fits-table : tie.Need-slice-aggregate-fits-table
-slice-aggregate-fits-table c = search needs
-
-fits-table-requires : tie.Need-fits-table-requires
-fits-table-requires c κs = search needs
-
-reading-of-requires : tie.Need-reading-of-requires
-reading-of-requires c κs = search needs
+read-mrr-requires : tie.Need-read-mrr-requires
+read-mrr-requires c κs = search needs
 
 enum-told-4 : tie.Need-enum-told-4
 enum-told-4 c = search needs
@@ -149,9 +138,7 @@ read-body-spec =
     enum-told-2
     read-mir-requires
     enum-told-3
-    slice-aggregate-fits-table
-    fits-table-requires
-    reading-of-requires
+    read-mrr-requires
     enum-told-4
     read-pcr-requires
     enum-told-5

@@ -3,12 +3,14 @@
 use mathlib.Core.Path.{ap, _∙_}
 use mathlib.Core.Bool.{Bool}
 use borrow.Author.Needs.{needs}
+use Rattle.fields.specs.Fields.{typeOf}
 use Rattle.bodies.specs.declared.Record.the-variants as body
 use Rattle.bodies.specs.Bodies.{reading}
 use Rattle.bodies.proofs.read_mir.Statement.{statement}
 use Rattle.bodies.proofs.read_mir.Tie as tie
 
 returns : tie.Need-returns
+unfolding typeOf
 returns c = c .reading-of .ensures ∙ ap (λ (t : Bool). reading t body.Mir) (c .before .fits-table .ensures)
 
 -- ---- found by search

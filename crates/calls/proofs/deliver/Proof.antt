@@ -2,11 +2,13 @@
 -- Assumes nothing.
 use mathlib.Core.Path.{_≡_, sym, _∙_, refl}
 use mathlib.Core.Bool.{true}
+use denote.Ref.{now}
 use borrow.Author.Needs.{needs}
 use borrow.Author.Tests.{not-true, not-false}
 use Rattle.house.specs.House.{sound, promised}
 use Rattle.house.proofs.Laws.{told-sound, told-unsound, told-promised}
-use Rattle.house.proofs.Calling.{deliver-unsound, deliver-no-slot, deliver-shut, deliver-judged}
+use Rattle.house.proofs.Calling.{deliver-unsound, deliver-no-slot, deliver-shut, deliver-judged, open-session}
+use Rattle.house.proofs.Calling.{laid-judged}
 use Rattle.calls.proofs.deliver.Statement.{statement}
 use Rattle.calls.proofs.deliver.Tie as tie
 
@@ -40,23 +42,35 @@ returns-3 c =
     c .answer-with3 .ensures
     ∙ sym (deliver-shut _ _ _ (sounded (inside .before)) (inside .if2 .left) (not-true _ (c .before .if3 .taken)))
 
-deliver-to-requires : tie.Need-deliver-to-requires
-deliver-to-requires c κs =
+judge-slot-requires : tie.Need-judge-slot-requires
+judge-slot-requires c κs =
     let inside = c .before .before .before in
-    let fine = inside .before in (
-      sounded fine,
-      inside .if2 .left,
-      refl,
-      not-false _ (c .if3 .left),
-      test fine .soundness-lent .ensures .1,
-      owed fine,
-    )
+    let fine = inside .before in
+    open-session (start fine .args .house) (start fine .args .slot) (sounded fine)
+    (test fine .soundness-lent .ensures .1) (inside .if2 .left) (not-false _ (c .if3 .left))
+
+settle-to-requires : tie.Need-settle-to-requires
+settle-to-requires c κs =
+    let there = c .before in
+    let inside = there .before .before .before in
+    let fine = inside .before in
+    record {
+      sound = sounded fine;
+      inside = inside .if2 .left;
+      is = refl;
+      taken = not-false _ (there .if3 .left);
+      slots = test fine .soundness-lent .ensures .1;
+      owes = owed fine;
+      fits = c .judge-slot .ensures .1;
+    }
 
 returns-4 : tie.Need-returns-4
 returns-4 c =
-    let there = c .before in
+    let there = c .before .before in
     let inside = there .before .before .before in
-    c .deliver-to .ensures
+    let a = start (inside .before) .args in
+    c .settle-to .ensures
+    ∙ laid-judged (a .house) (a .slot) (now (a .rec)) (c .before .judge-slot .ensures .0)
     ∙ sym (deliver-judged _ _ _ (sounded (inside .before)) (inside .if2 .left) (not-false _ (there .if3 .left)))
 
 -- ---- found by search
@@ -92,5 +106,6 @@ deliver-spec =
     element-copy-out-s
     answer-with-requires-3
     returns-3
-    deliver-to-requires
+    judge-slot-requires
+    settle-to-requires
     returns-4)

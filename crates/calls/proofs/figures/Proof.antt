@@ -37,7 +37,7 @@ figures-spec =
     tie.close
     (tie.spec
     soundness-of-requires
-    cast-free
     sub-free
+    cast-free
     returns
     returns-2)

@@ -108,8 +108,8 @@ answer-with-requires-5 c κs = search needs
 opened-requires : tie.Need-opened-requires
 opened-requires c κs = search needs
 
-mul-t13 : tie.Need-mul-t13
-mul-t13 c = search needs
+mul-t19 : tie.Need-mul-t19
+mul-t19 c = search needs
 
 element-set-from-h : tie.Need-element-set-from-h
 element-set-from-h c = search needs
@@ -132,13 +132,13 @@ open-slot-spec =
     element-copy-out-s
     answer-with-requires-4
     returns-4
-    cast-free
     sub-free
+    cast-free
     sub-if5
     answer-with-requires-5
     returns-5
     opened-requires
-    mul-t13
+    mul-t19
     element-set-from-h
     answer-with-requires-6
     returns-6)

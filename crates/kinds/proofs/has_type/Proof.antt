@@ -11,26 +11,26 @@ use Rattle.kinds.proofs.has_type.Statement.{statement}
 use Rattle.kinds.proofs.has_type.Tie as tie
 
 abbrev Inv-loop : tie.InvT-loop
-Inv-loop typ i₀ i = (i ≤ 25) × (hasType pairs typ ≡ hasType (drop i pairs) typ)
+Inv-loop typ table i₀ i = (i ≤ 25) × (hasType pairs typ ≡ hasType (drop i pairs) typ)
 
 abbrev μ-loop : tie.MeasureT-loop
-μ-loop typ i₀ i = 25 - i
+μ-loop typ table i₀ i = 25 - i
 
 loop-holds : tie.Need-loop-holds Inv-loop μ-loop
 loop-holds c = (omega arith, refl)
 
 returns : tie.Need-returns Inv-loop μ-loop
 returns c =
-    let found = c .before .before in
-    let l = found .before .before in
-    sym (l .loop .inv .1 ∙ type-here pairs _ (l .loop .i) (omega arith) (rw (found .entry .ensures) at (c .if1 .taken)))
+    let l = c .before .before .before .before in
+    let is = l .before .pre in
+    sym (l .loop .inv .1 ∙ type-here pairs _ (l .loop .i) (omega arith) (rw is at (c .if1 .taken)))
 
 loop-again : tie.Need-loop-again Inv-loop μ-loop
 loop-again c =
-    let found = c .before .before in
-    let l = found .before .before in (
+    let l = c .before .before .before .before in
+    let is = l .before .pre in (
       omega arith,
-      l .loop .inv .1 ∙ type-on pairs _ (l .loop .i) (omega arith) (rw (found .entry .ensures) at (c .if1 .left)),
+      l .loop .inv .1 ∙ type-on pairs _ (l .loop .i) (omega arith) (rw is at (c .if1 .left)),
     )
 
 returns-2 : tie.Need-returns-2 Inv-loop μ-loop
@@ -38,8 +38,11 @@ returns-2 c = sym (c .before .loop .inv .1 ∙ type-none pairs _ (c .before .loo
 
 -- ---- found by search
 
-entry-requires : tie.Need-entry-requires Inv-loop μ-loop
-entry-requires c κs = search needs
+mul-p : tie.Need-mul-p Inv-loop μ-loop
+mul-p c = search needs
+
+array-copy-out-p : tie.Need-array-copy-out-p Inv-loop μ-loop
+array-copy-out-p c = search needs
 
 add-i : tie.Need-add-i Inv-loop μ-loop
 add-i c = search needs
@@ -54,7 +57,8 @@ has-type-spec =
     Inv-loop
     μ-loop
     loop-holds
-    entry-requires
+    mul-p
+    array-copy-out-p
     returns
     add-i
     loop-less

@@ -1,6 +1,6 @@
--- `line_records::judge_record` meets its contract: each return is one law of `judged`, in the order of the checks.
+-- `line_records::judge_record` meets its contract: each return is one law of `meaning`, in the order of the checks.
 -- Assumes nothing.
-use mathlib.Core.Path.{_≡_, ap, sym, _∙_}
+use mathlib.Core.Path.{_≡_, sym, _∙_}
 use mathlib.Core.Bool.{true}
 use Prim.Native.Nat.{_≤_}
 use native.Mathlib.Omega.{arith}
@@ -8,10 +8,13 @@ use lib.ListN.{length}
 use denote.Ref.{now}
 use borrow.Author.Tests.{not-true, not-false}
 use borrow.Author.Needs.{needs}
-use Rattle.line_records.specs.Records.{ofReading}
-use Rattle.frames.specs.Frames.{isRecord}
+use Rattle.prelude.proofs.Parts.{part-from}
+use Rattle.answers.specs.declared.Answer.the-variants.{NotOneRecord, UnknownKind}
+use Rattle.frames.specs.Frames.{body, isRecord}
 use Rattle.frames.proofs.Laws.{record-header}
-use Rattle.line_records.proofs.Judges.{part-rest, judged-frame, judged-kind, judged-body}
+use Rattle.line_layouts.proofs.Faults.{taken-refused}
+use Rattle.line_records.specs.Records.{meaning}
+use Rattle.line_records.proofs.Judges.{meaning-frame, meaning-tagged}
 use Rattle.line_records.proofs.judge_record.Statement.{statement}
 use Rattle.line_records.proofs.judge_record.Tie as tie
 
@@ -26,9 +29,11 @@ whole c = record-header (c .before .before .before .args .order) (now (c .before
 returns : tie.Need-returns
 returns c =
     let a = c .before .before .before .before .args in
+    let s = now (a .«record») in
     let told = c .before .before .is-record in
-    c .refused-line .ensures ∙ judged-frame (a .order) (now (a .«record»))
-    (sym (told .ensures) ∙ not-true (told .result) (c .before .if1 .taken))
+    rw (c .refused-line .ensures)
+    (taken-refused (body s) (meaning (a .order) s) NotOneRecord
+    (meaning-frame (a .order) s (sym (told .ensures) ∙ not-true (told .result) (c .before .if1 .taken))))
 
 shared-slice-read-kind-of : tie.Need-shared-slice-read-kind-of
 shared-slice-read-kind-of c = omega (arith, whole (c .before))
@@ -36,32 +41,33 @@ shared-slice-read-kind-of c = omega (arith, whole (c .before))
 shared-slice-read-kind-of-2 : tie.Need-shared-slice-read-kind-of-2
 shared-slice-read-kind-of-2 c = omega (arith, whole (c .before .before))
 
+sub-walk : tie.Need-sub-walk
+sub-walk c = whole (c .before .before .before .before .before .before .before)
+
+part-walk-start : tie.Need-part-walk-start
+part-walk-start c = whole (c .before .before .before .before .before .before .before)
+
 returns-2 : tie.Need-returns-2
 returns-2 c =
-    let a = c .before .before .before .before .before .before .before .before .before .args in
-    let told = c .before .before .is-count in
-    let count = rw (c .before .before .before .kind-of .ensures)
-    at (sym (told .ensures) ∙ not-true (told .result) (c .before .if2 .taken)) in
-    c .refused-line2 .ensures ∙ judged-kind (a .order) (now (a .«record»))
-    (is (c .before .before .before .before .before .before)) count
-
-sub-read-body : tie.Need-sub-read-body
-sub-read-body c = whole (c .before .before .before .before .before)
-
-part-read-body-start : tie.Need-part-read-body-start
-part-read-body-start c = whole (c .before .before .before .before .before)
+    let t = c .before .before .before in
+    let n = t .before .before in
+    let k = n .before in
+    let e = k .before .before .before in
+    let a = e .before .before .before .args in
+    let s = now (a .«record») in
+    let tagged = rw (k .kind-of .ensures) at (sym (n .count-tag .ensures) ∙ t .tag .given .1) in
+    rw (meaning-tagged (a .order) s (is e), tagged) (rw (part-from s 4) at (c .walk .ensures))
 
 returns-3 : tie.Need-returns-3
 returns-3 c =
-    let a = c .before .before .before .before .before .before .before .before .before .before .before .args in
+    let n = c .before .before .before in
+    let k = n .before in
+    let e = k .before .before .before in
+    let a = e .before .before .before .args in
     let s = now (a .«record») in
-    let told = c .before .before .before .before .is-count in
-    let count = rw (c .before .before .before .before .before .kind-of .ensures)
-    at (sym (told .ensures) ∙ not-false (told .result) (c .before .before .before .if2 .left)) in
-    let read = rw (part-rest 4 s, c .before .before .before .before .before .kind-of .ensures)
-    at (c .before .read-body .ensures) in
-    c .of-reading .ensures ∙ ap ofReading read ∙ judged-body (a .order) s
-    (is (c .before .before .before .before .before .before .before .before)) count
+    let tagged = rw (k .kind-of .ensures) at (sym (n .count-tag .ensures) ∙ c .before .enum-told .given .1) in
+    rw (c .refused-line2 .ensures)
+    (taken-refused (body s) (meaning (a .order) s) UnknownKind (rw (meaning-tagged (a .order) s (is e), tagged)))
 
 -- ---- found by search
 
@@ -74,20 +80,23 @@ refused-line-requires c κs = search needs
 kind-of-requires : tie.Need-kind-of-requires
 kind-of-requires c κs = search needs
 
-is-count-requires : tie.Need-is-count-requires
-is-count-requires c κs = search needs
+count-tag-requires : tie.Need-count-tag-requires
+count-tag-requires c κs = search needs
+
+enum-known-tag : tie.Need-enum-known-tag
+enum-known-tag c = search needs
+
+part-walk-end : tie.Need-part-walk-end
+part-walk-end c = search needs
+
+walk-requires : tie.Need-walk-requires
+walk-requires c κs = search needs
+
+enum-told : tie.Need-enum-told
+enum-told c = search needs
 
 refused-line-requires-2 : tie.Need-refused-line-requires-2
 refused-line-requires-2 c κs = search needs
-
-part-read-body-end : tie.Need-part-read-body-end
-part-read-body-end c = search needs
-
-read-body-requires : tie.Need-read-body-requires
-read-body-requires c κs = search needs
-
-of-reading-requires : tie.Need-of-reading-requires
-of-reading-requires c κs = search needs
 
 pub judge-record-spec : {M : Type 1} → statement M
 judge-record-spec =
@@ -99,12 +108,13 @@ judge-record-spec =
     shared-slice-read-kind-of
     shared-slice-read-kind-of-2
     kind-of-requires
-    is-count-requires
+    count-tag-requires
+    enum-known-tag
+    sub-walk
+    part-walk-start
+    part-walk-end
+    walk-requires
+    enum-told
     refused-line-requires-2
     returns-2
-    sub-read-body
-    part-read-body-start
-    part-read-body-end
-    read-body-requires
-    of-reading-requires
     returns-3)

@@ -6,8 +6,8 @@ use native.Mathlib.Omega.{arith}
 use lib.ListN.{length}
 use denote.Ref.{now}
 use borrow.Author.Needs.{needs}
-use Rattle.following.specs.Lent.{Right}
-use Rattle.following.proofs.Carry.{right-read}
+use Rattle.tallying.specs.Lent.{Right}
+use Rattle.tallying.proofs.Carry.{right-read}
 use Rattle.tally.proofs.follow_all.Statement.{statement}
 use Rattle.tally.proofs.follow_all.Tie as tie
 

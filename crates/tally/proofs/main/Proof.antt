@@ -1,7 +1,7 @@
 -- `tally::main` ends, and writes no more than its text.
 -- Assumes nothing.
 use borrow.Author.Needs.{needs}
-use Rattle.following.proofs.Texts.{put-within}
+use Rattle.tally_lines.proofs.Lines.{put-within}
 use Rattle.tally.proofs.main.Statement.{statement}
 use Rattle.tally.proofs.main.Tie as tie
 

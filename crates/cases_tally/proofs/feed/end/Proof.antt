@@ -1,7 +1,7 @@
 -- `cases_tally::feed::end` ends, and writes no more than the text.
 -- Assumes nothing.
 use borrow.Author.Needs.{needs}
-use Rattle.following.proofs.Texts.{put-within}
+use Rattle.tally_lines.proofs.Lines.{put-within}
 use Rattle.cases_tally.proofs.feed.end.Statement.{statement}
 use Rattle.cases_tally.proofs.feed.end.Tie as tie
 
@@ -14,23 +14,11 @@ slice-aggregate-finish c = search needs
 finish-requires : tie.Need-finish-requires
 finish-requires c κs = search needs
 
-say-requires : tie.Need-say-requires
-say-requires c κs = search needs
-
 slice-aggregate-say : tie.Need-slice-aggregate-say
 slice-aggregate-say c = search needs
 
-say-requires-2 : tie.Need-say-requires-2
-say-requires-2 c κs = search needs
-
-say-number-requires : tie.Need-say-number-requires
-say-number-requires c κs = search needs
-
-slice-aggregate-say-2 : tie.Need-slice-aggregate-say-2
-slice-aggregate-say-2 c = search needs
-
-say-requires-3 : tie.Need-say-requires-3
-say-requires-3 c κs = search needs
+say-requires : tie.Need-say-requires
+say-requires c κs = search needs
 
 sub-say : tie.Need-sub-say
 sub-say c = search needs
@@ -39,11 +27,10 @@ part-say-start : tie.Need-part-say-start
 part-say-start c = search needs
 
 part-say-end : tie.Need-part-say-end
-part-say-end c =
-    put-within _ _ _ _ (c .before .before .before .before .before .before .before .before .finish .ensures)
+part-say-end c = put-within _ _ _ _ (c .before .before .before .before .finish .ensures)
 
-say-requires-4 : tie.Need-say-requires-4
-say-requires-4 c κs = search needs
+say-requires-2 : tie.Need-say-requires-2
+say-requires-2 c κs = search needs
 
 returns : tie.Need-returns
 returns c = search needs
@@ -55,14 +42,10 @@ end-spec =
     large-buffer-requires
     slice-aggregate-finish
     finish-requires
-    say-requires
     slice-aggregate-say
-    say-requires-2
-    say-number-requires
-    slice-aggregate-say-2
-    say-requires-3
+    say-requires
     sub-say
     part-say-start
     part-say-end
-    say-requires-4
+    say-requires-2
     returns)

@@ -3,7 +3,9 @@
 use mathlib.Core.Path.{ap}
 use lib.ListN.{replicate}
 use borrow.Author.Needs.{needs}
+use Rattle.rows.specs.Rows.{slotCount}
 use Rattle.house.specs.declared.Slot.{Slot}
+use Rattle.house.specs.House.{rowCount}
 use Rattle.house.proofs.House.fresh.Statement.{statement}
 use Rattle.house.proofs.House.fresh.Tie as tie
 
@@ -11,7 +13,12 @@ returns : tie.Need-returns
 returns c =
     ap
     (λ (s : Slot).
-    record { keys = replicate 1024 0; counts = replicate 1024 0; used = 0; slots = replicate 16 s })
+    record {
+      keys = replicate rowCount 0;
+      counts = replicate rowCount 0;
+      used = 0;
+      slots = replicate slotCount s;
+    })
     (c .closed .ensures)
 
 -- ---- found by search

@@ -7,48 +7,64 @@ use denote.Ref.{now}
 use borrow.Author.Needs.{needs}
 use Rattle.line_layouts.specs.Entries.{entryOf}
 use Rattle.line_layouts.specs.Layouts.{nthBytes}
-use Rattle.line_layouts.proofs.Laid.{most-columns, marked-size}
+use Rattle.line_layouts.proofs.Laid.{most-columns, column-inside, marked-size}
 use Rattle.line_layouts.proofs.laying.nth_size.Statement.{statement}
 use Rattle.line_layouts.proofs.laying.nth_size.Tie as tie
 
+column-of-requires : tie.Need-column-of-requires
+column-of-requires c κs = omega (arith, c .before .pre .before, c .before .pre .few)
+
 said-at-requires : tie.Need-said-at-requires
 said-at-requires c κs =
-    let s = c .before in
-    omega (arith, s .pre .before, s .pre .few, most-columns (s .args .line .tag))
+    let s = c .before .before in
+    let a = s .args in
+    omega (
+      arith,
+      c .column-of .ensures,
+      column-inside (a .layout) (a .line .tag) (a .j) (omega (arith, s .pre .before, s .pre .few)),
+      most-columns (a .line .tag),
+    )
+
+column-at-requires : tie.Need-column-at-requires
+column-at-requires c κs =
+    let s = c .before .before .before in
+    let a = s .args in
+    rw (c .before .column-of .ensures)
+    (column-inside (a .layout) (a .line .tag) (a .j) (omega (arith, s .pre .before, s .pre .few)))
 
 entry-size-requires : tie.Need-entry-size-requires
 entry-size-requires c κs =
-    let s = c .before .before .before .before .before in
-    rw (c .before .before .before .said-at .ensures) (s .pre .there .within (s .args .j))
+    let s = c .before .before .before .before .before .before in
+    rw (c .before .before .before .said-at .ensures)
+    (s .pre .there .within (c .before .before .before .before .column-of .result))
 
 stored-size-requires : tie.Need-stored-size-requires
 stored-size-requires c κs =
-    let s = c .before .before .before .before .before .before in
-    rw (c .before .before .before .before .said-at .ensures) (s .pre .there .within (s .args .j))
+    let s = c .before .before .before .before .before .before .before in
+    rw (c .before .before .before .before .said-at .ensures)
+    (s .pre .there .within (c .before .before .before .before .before .column-of .result))
 
 returns : tie.Need-returns
 unfolding nthBytes
 returns c =
-    let a = c .before .before .before .before .before .before .args in
+    let a = c .before .before .before .before .before .before .before .args in
     let is = c .before .before .before .before .said-at in
-    rw (c .before .enum-told .given .1, ← is .ensures) (
-      marked-size (entryOf (now (a .source)) (is .result)) (eqb (a .j + 1) (a .n)) (c .entry-size .ensures .0),
+    rw (← c .before .before .before .before .before .column-of .ensures, ← is .ensures)
+    (rw (c .before .enum-told .given .1) (
+      marked-size _ (entryOf (now (a .source)) (is .result)) (eqb (a .j + 1) (a .n)) (c .entry-size .ensures .0),
       omega arith,
-    )
+    ))
 
 returns-2 : tie.Need-returns-2
 unfolding nthBytes
 returns-2 c =
     rw (
-      c .before .before .layout .given .1,
+      ← c .before .before .before .before .before .before .column-of .ensures,
       ← c .before .before .before .before .before .said-at .ensures,
       ← c .before .before .before .before .column-at .ensures,
-    ) (c .stored-size .ensures)
+    ) (rw (c .before .before .layout .given .1) (c .stored-size .ensures))
 
 -- ---- found by search
-
-column-at-requires : tie.Need-column-at-requires
-column-at-requires c κs = search needs
 
 enum-told : tie.Need-enum-told
 enum-told c = search needs
@@ -63,6 +79,7 @@ pub nth-size-spec : {M : Type 1} → statement M
 nth-size-spec =
     tie.close
     (tie.spec
+    column-of-requires
     said-at-requires
     column-at-requires
     enum-told

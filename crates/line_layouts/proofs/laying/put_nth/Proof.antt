@@ -3,64 +3,81 @@
 use native.Mathlib.Omega.{arith}
 use borrow.Author.Needs.{needs}
 use Rattle.line_layouts.specs.Layouts.{nthBytes}
-use Rattle.line_layouts.proofs.Laid.{most-columns}
+use Rattle.line_layouts.proofs.Laid.{most-columns, column-inside}
 use Rattle.line_layouts.proofs.laying.put_nth.Statement.{statement}
 use Rattle.line_layouts.proofs.laying.put_nth.Tie as tie
 
+column-of-requires : tie.Need-column-of-requires
+column-of-requires c κs = omega (arith, c .before .before .pre .0 .before, c .before .before .pre .0 .few)
+
 said-at-requires : tie.Need-said-at-requires
 said-at-requires c κs =
-    let s = c .before .before in
-    omega (arith, s .pre .0 .before, s .pre .0 .few, most-columns (s .args .line .tag))
+    let s = c .before .before .before in
+    let a = s .args in
+    omega (
+      arith,
+      c .column-of .ensures,
+      column-inside (a .layout) (a .line .tag) (a .j) (omega (arith, s .pre .0 .before, s .pre .0 .few)),
+      most-columns (a .line .tag),
+    )
+
+column-at-requires : tie.Need-column-at-requires
+column-at-requires c κs =
+    let s = c .before .before .before .before in
+    let a = s .args in
+    rw (c .before .column-of .ensures)
+    (column-inside (a .layout) (a .line .tag) (a .j) (omega (arith, s .pre .0 .before, s .pre .0 .few)))
 
 put-marked-requires : tie.Need-put-marked-requires
 unfolding nthBytes
 put-marked-requires c κs =
-    let s = c .before .before .before .before .before .before .before in
-    let is = c .before .before .before .before .said-at .ensures in
-    (rw is (s .pre .0 .there .within (s .args .j)), rw (c .before .enum-told .given .1, ← is) at (s .pre .1))
+    let s = c .before .before .before .before .before .before .before .before .before in
+    let of = c .before .before .before .before .before .before .column-of in
+    let is = c .before .before .before .before .before .said-at .ensures in (
+      rw is (s .pre .0 .there .within (of .result)),
+      rw (c .before .before .layout .given .1) at (rw (← of .ensures, ← is) at (s .pre .1)),
+    )
 
 put-stored-requires : tie.Need-put-stored-requires
 unfolding nthBytes
 put-stored-requires c κs =
-    let s = c .before .before .before .before .before .before .before .before in
+    let s = c .before .before .before .before .before .before .before .before .before in
+    let of = c .before .before .before .before .before .before .column-of in
     let is = c .before .before .before .before .before .said-at .ensures in (
-      rw is (s .pre .0 .there .within (s .args .j)),
-      rw (c .before .before .layout .given .1, ← is, ← c .before .before .before .before .column-at .ensures)
-          at (s .pre .1),
+      rw is (s .pre .0 .there .within (of .result)),
+      rw (c .before .before .layout2 .given .1)
+          at (rw (← of .ensures, ← is, ← c .before .before .before .before .column-at .ensures) at (s .pre .1)),
     )
 
 returns : tie.Need-returns
 unfolding nthBytes
 returns c =
     rw (
-      c .before .before .before .before .enum-told .given .1,
-      ← c .before .before .before .before .before .before .before .said-at .ensures,
+      ← c .before .before .before .before .before .before .before .before .before .column-of .ensures,
+      ← c .before .before .before .before .before .before .before .before .said-at .ensures,
     )
-    (c .before .before .put-marked .ensures)
+    (rw (c .before .before .before .before .before .layout .given .1) (c .before .before .put-marked .ensures))
 
 returns-2 : tie.Need-returns-2
 unfolding nthBytes
 returns-2 c =
     rw (
-      c .before .before .before .before .before .layout .given .1,
+      ← c .before .before .before .before .before .before .before .before .before .column-of .ensures,
       ← c .before .before .before .before .before .before .before .before .said-at .ensures,
       ← c .before .before .before .before .before .before .before .column-at .ensures,
     )
-    (c .before .before .put-stored .ensures)
+    (rw (c .before .before .before .before .before .layout2 .given .1) (c .before .before .put-stored .ensures))
 
 -- ---- found by search
 
-column-at-requires : tie.Need-column-at-requires
-column-at-requires c κs = search needs
-
-enum-told : tie.Need-enum-told
-enum-told c = search needs
+enum-known-layout : tie.Need-enum-known-layout
+enum-known-layout c = search needs
 
 add-put-marked : tie.Need-add-put-marked
 add-put-marked c = search needs
 
-enum-known-layout : tie.Need-enum-known-layout
-enum-known-layout c = search needs
+enum-known-layout-2 : tie.Need-enum-known-layout-2
+enum-known-layout-2 c = search needs
 
 same-length : tie.Need-same-length
 same-length c = search needs
@@ -72,12 +89,13 @@ pub put-nth-spec : {M : Type 1} → statement M
 put-nth-spec =
     tie.close
     (tie.spec
+    column-of-requires
     said-at-requires
     column-at-requires
-    enum-told
+    enum-known-layout
     add-put-marked
     put-marked-requires
-    enum-known-layout
+    enum-known-layout-2
     put-stored-requires
     same-length
     returns

@@ -17,11 +17,11 @@ use Rattle.line_layouts.proofs.names.part_allowed.Statement.{statement}
 use Rattle.line_layouts.proofs.names.part_allowed.Tie as tie
 
 abbrev Inv-loop : tie.InvT-loop
-Inv-loop source at len i₀ i =
-    (i ≤ len) × (each allowed (part at len source) ≡ each allowed (drop i (part at len source)))
+Inv-loop sep source at len i₀ i =
+    (i ≤ len) × (each (allowed sep) (part at len source) ≡ each (allowed sep) (drop i (part at len source)))
 
 abbrev μ-loop : tie.MeasureT-loop
-μ-loop source at len i₀ i = len - i
+μ-loop sep source at len i₀ i = len - i
 
 loop-holds : tie.Need-loop-holds Inv-loop μ-loop
 loop-holds c = (omega arith, refl)
@@ -35,7 +35,7 @@ returns c =
     let bytes = part (a .at) (a .len) (now (a .source)) in
     let told = c .before .is-allowed in
     let size = length-part (a .at) (a .len) (now (a .source)) (s .pre) in
-    sym (l .loop .inv .1 ∙ each-fails ℕ allowed bytes i 0 (omega arith)
+    sym (l .loop .inv .1 ∙ each-fails ℕ (allowed (a .sep)) bytes i 0 (omega arith)
     (rw (part-at (a .at) (a .len) i (now (a .source)) (omega arith))
     (sym (told .ensures) ∙ not-true (told .result) (c .if1 .taken))))
 
@@ -49,7 +49,7 @@ loop-again c =
     let told = c .before .is-allowed in
     let size = length-part (a .at) (a .len) (now (a .source)) (s .pre) in (
       omega arith,
-      l .loop .inv .1 ∙ each-on ℕ allowed bytes i 0 (omega arith)
+      l .loop .inv .1 ∙ each-on ℕ (allowed (a .sep)) bytes i 0 (omega arith)
           (rw (part-at (a .at) (a .len) i (now (a .source)) (omega arith))
           (sym (told .ensures) ∙ not-false (told .result) (c .if1 .left))),
     )
@@ -60,7 +60,8 @@ returns-2 c =
     let s = l .before .before in
     let a = s .args in
     let size = length-part (a .at) (a .len) (now (a .source)) (s .pre) in
-    sym (l .loop .inv .1 ∙ each-ends ℕ allowed (part (a .at) (a .len) (now (a .source))) (l .loop .i) 0 (omega arith))
+    sym (l .loop .inv .1 ∙ each-ends ℕ (allowed (a .sep)) (part (a .at) (a .len) (now (a .source))) (l .loop .i) 0
+    (omega arith))
 
 -- ---- found by search
 

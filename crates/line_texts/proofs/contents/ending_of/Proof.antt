@@ -4,7 +4,8 @@ use mathlib.Core.Path.{sym}
 use native.Mathlib.Omega.{arith}
 use denote.Ref.{now}
 use borrow.Author.Needs.{needs}
-use Rattle.line_texts.proofs.Whole.{ending-both, ending-feed, ending-return, ending-none, ending-empty, ending-two}
+use Rattle.line_texts.proofs.Whole.{ending-both, ending-feed, ending-return, ending-none}
+use Rattle.line_texts.proofs.Whole.{ending-empty, ending-two}
 use Rattle.line_texts.proofs.contents.ending_of.Statement.{statement}
 use Rattle.line_texts.proofs.contents.ending_of.Tie as tie
 

@@ -14,12 +14,12 @@ use Rattle.line_texts.proofs.pieces.fields_fit.Statement.{statement}
 use Rattle.line_texts.proofs.pieces.fields_fit.Tie as tie
 
 abbrev Inv-loop : tie.InvT-loop
-Inv-loop text tag count from₀ more₀ j₀ from more j =
-    (j ≤ count) × (from ≤ length text) × (fieldsFit (columns tag) (split (drop 4 text)) ≡ fieldsFit
-    (drop j (columns tag)) (left more from text))
+Inv-loop text sep tag count from₀ more₀ j₀ from more j =
+    (j ≤ count) × (from ≤ length text) × (fieldsFit sep (columns tag) (split sep (drop 4 text)) ≡ fieldsFit sep
+    (drop j (columns tag)) (left sep more from text))
 
 abbrev μ-loop : tie.MeasureT-loop
-μ-loop text tag count from₀ more₀ j₀ from more j = count - j
+μ-loop text sep tag count from₀ more₀ j₀ from more j = count - j
 
 loop-holds : tie.Need-loop-holds Inv-loop μ-loop
 loop-holds c = (omega arith, c .before .before .pre, refl)
@@ -38,7 +38,8 @@ returns c =
     let count = l .before .column-count .ensures .0 in
     let p = c .before .before .before .piece-at in
     let told = c .before .fits-at in
-    sym (l .loop .inv .2 ∙ fields-no (columns (a .tag)) (l .loop .j) (left (l .loop .more) (l .loop .from) s)
+    sym (l .loop .inv .2 ∙ fields-no (a .sep) (columns (a .tag)) (l .loop .j) (left (a .sep) (l .loop .more)
+    (l .loop .from) s)
     (omega arith)
     (rw (← p .ensures .is, ← c .before .before .column-at .ensures)
     (sym (told .ensures) ∙ not-true (told .result) (c .if1 .taken))))
@@ -54,7 +55,8 @@ loop-again c =
       omega arith,
       p .ensures .on,
       rw (p .ensures .behind)
-          (l .loop .inv .2 ∙ fields-on (columns (a .tag)) (l .loop .j) (left (l .loop .more) (l .loop .from) s)
+          (l .loop .inv .2 ∙ fields-on (a .sep) (columns (a .tag)) (l .loop .j) (left (a .sep) (l .loop .more)
+          (l .loop .from) s)
           (omega arith)
           (rw (← p .ensures .is, ← c .before .before .column-at .ensures)
           (sym (told .ensures) ∙ not-false (told .result) (c .if1 .left)))),
@@ -66,9 +68,10 @@ returns-2 c =
     let a = l .before .before .before .args in
     let s = now (a .text) in
     let count = l .before .column-count .ensures .0 in
-    sym (l .loop .inv .2 ∙ fields-end (columns (a .tag)) (l .loop .j) (left (l .loop .more) (l .loop .from) s)
+    sym (l .loop .inv .2 ∙ fields-end (a .sep) (columns (a .tag)) (l .loop .j) (left (a .sep) (l .loop .more)
+    (l .loop .from) s)
     (omega arith)
-    ∙ left-none (l .loop .more) (l .loop .from) s)
+    ∙ left-none (a .sep) (l .loop .more) (l .loop .from) s)
 
 -- ---- found by search
 

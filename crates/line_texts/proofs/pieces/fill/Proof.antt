@@ -16,20 +16,21 @@ use Rattle.line_layouts.specs.Entries.{entryOf}
 use Rattle.line_texts.specs.Pieces.{split, fieldsFit, entriesIn, left, short}
 use Rattle.line_texts.proofs.Cuts.{fields-fits, fields-on}
 use Rattle.line_texts.proofs.Fits.{short-columns}
-use Rattle.line_texts.proofs.Fills.{Withins, within-none, within-set, filled-on, filled-all}
+use Rattle.line_layouts.proofs.Fills.{Withins, within-none, within-set}
+use Rattle.line_texts.proofs.Fills.{filled-on, filled-all}
 use Rattle.line_texts.proofs.pieces.fill.Statement.{statement}
 use Rattle.line_texts.proofs.pieces.fill.Tie as tie
 
 abbrev Inv-loop : tie.InvT-loop
-Inv-loop text tag count fields₀ from₀ more₀ j₀ fields from more j =
-    (j ≤ count) × (from ≤ length text) × (fieldsFit (drop j (columns tag)) (left more from text) ≡ true)
+Inv-loop text sep tag count fields₀ from₀ more₀ j₀ fields from more j =
+    (j ≤ count) × (from ≤ length text) × (fieldsFit sep (drop j (columns tag)) (left sep more from text) ≡ true)
     × (length fields ≡ 7) × Withins text fields
     × (map (λ (f : Field). entryOf text (f .said)) (take j fields) ++ entriesIn (drop j (columns tag))
-    (left more from text)
-    ≡ entriesIn (columns tag) (split (drop 4 text)))
+    (left sep more from text)
+    ≡ entriesIn (columns tag) (split sep (drop 4 text)))
 
 abbrev μ-loop : tie.MeasureT-loop
-μ-loop text tag count fields₀ from₀ more₀ j₀ fields from more j = count - j
+μ-loop text sep tag count fields₀ from₀ more₀ j₀ fields from more j = count - j
 
 loop-holds : tie.Need-loop-holds Inv-loop μ-loop
 loop-holds c = (
@@ -37,8 +38,7 @@ loop-holds c = (
   c .before .before .pre .0,
   c .before .before .pre .1,
   refl,
-  within-none
-      (now (c .before .before .args .text)) 0,
+  within-none (now (c .before .before .args .text)),
   refl,
 )
 
@@ -55,7 +55,8 @@ said-in-requires c κs =
       rw (c .column-at .ensures) (each-at Column short (columns (a .tag)) noColumn (l .loop .j)
           (short-columns (a .tag)) inside),
       rw (c .column-at .ensures, p .is)
-          (fields-fits (columns (a .tag)) (l .loop .j) (left (l .loop .more) (l .loop .from) (now (a .text))) inside
+          (fields-fits (a .sep) (columns (a .tag)) (l .loop .j) (left (a .sep) (l .loop .more) (l .loop .from) (now
+          (a .text))) inside
           (l .loop .inv .2)),
     )
 
@@ -73,15 +74,15 @@ loop-again c =
     let j = l .loop .j in
     let p = c .before .before .piece-at .ensures in
     let cs = columns (a .tag) in
-    let ps = left (l .loop .more) (l .loop .from) s in
+    let ps = left (a .sep) (l .loop .more) (l .loop .from) s in
     let inside : j < length (columns (a .tag)) = omega (arith, l .before .column-count .ensures .0) in
     let room : j < length (l .loop .fields) = omega (arith, l .before .column-count .ensures .1, l .loop .inv .3) in
-    let fits = fields-fits cs j ps inside (l .loop .inv .2) in
+    let fits = fields-fits (a .sep) cs j ps inside (l .loop .inv .2) in
     let f : Field = record { said = c .said-in .result } in
     let is = rw (c .before .column-at .ensures, p .is) at (c .said-in .ensures .says) in (
       omega arith,
       p .on,
-      rw (p .behind) (sym (fields-on cs j ps inside fits) ∙ l .loop .inv .2),
+      rw (p .behind) (sym (fields-on (a .sep) cs j ps inside fits) ∙ l .loop .inv .2),
       simp length-set (l .loop .inv .3),
       within-set s (l .loop .fields) j f room (l .loop .inv .4) (c .said-in .ensures .there),
       rw (p .behind) (filled-on s (l .loop .fields) j f room cs ps inside is ∙ l .loop .inv .5),
@@ -95,8 +96,9 @@ returns c =
     record {
       there = record { seven = l .loop .inv .3; within = l .loop .inv .4 };
       is =
-          filled-all s (a .tag) (l .loop .fields) (l .loop .j) (left (l .loop .more) (l .loop .from) s)
-          (entriesIn (columns (a .tag)) (split (drop 4 s))) (omega (arith, l .before .column-count .ensures .0))
+          filled-all s (a .tag) (l .loop .fields) (l .loop .j) (left (a .sep) (l .loop .more) (l .loop .from) s)
+          (entriesIn (columns (a .tag)) (split (a .sep) (drop 4 s))) (omega
+          (arith, l .before .column-count .ensures .0))
           (l .loop .inv .5);
     }
 

@@ -11,18 +11,20 @@ returns : tie.Need-returns
 returns c =
     let s = c .before .before in
     let a = s .args in
-    next-none (now (a .text)) (a .from) (a .more) (s .pre) (not-true (a .more) (c .if1 .taken))
+    next-none (a .sep) (now (a .text)) (a .from) (a .more) (s .pre) (not-true (a .more) (c .if1 .taken))
 
 returns-2 : tie.Need-returns-2
 returns-2 c =
     let a = c .before .before .before .before .args in
-    next-more (now (a .text)) (a .from) (a .more) (c .before .piece-end .result) (c .before .piece-end .ensures)
+    next-more (a .sep) (now (a .text)) (a .from) (a .more) (c .before .piece-end .result)
+    (c .before .piece-end .ensures)
     (not-false (a .more) (c .before .before .if1 .left)) (c .if2 .taken)
 
 returns-3 : tie.Need-returns-3
 returns-3 c =
     let a = c .before .before .before .before .args in
-    next-last (now (a .text)) (a .from) (a .more) (c .before .piece-end .result) (c .before .piece-end .ensures)
+    next-last (a .sep) (now (a .text)) (a .from) (a .more) (c .before .piece-end .result)
+    (c .before .piece-end .ensures)
     (not-false (a .more) (c .before .before .if1 .left)) (c .if2 .left)
 
 -- ---- found by search
@@ -30,15 +32,15 @@ returns-3 c =
 piece-end-requires : tie.Need-piece-end-requires
 piece-end-requires c κs = search needs
 
-sub-t8 : tie.Need-sub-t8
-sub-t8 c = search needs
+sub-t9 : tie.Need-sub-t9
+sub-t9 c = search needs
 
-add-t9 : tie.Need-add-t9
-add-t9 c = search needs
+add-t10 : tie.Need-add-t10
+add-t10 c = search needs
 
-sub-t10 : tie.Need-sub-t10
-sub-t10 c = search needs
+sub-t11 : tie.Need-sub-t11
+sub-t11 c = search needs
 
 pub piece-at-spec : {M : Type 1} → statement M
 piece-at-spec =
-    tie.close (tie.spec returns piece-end-requires sub-t8 add-t9 sub-t10 returns-2 returns-3)
+    tie.close (tie.spec returns piece-end-requires sub-t9 add-t10 sub-t11 returns-2 returns-3)

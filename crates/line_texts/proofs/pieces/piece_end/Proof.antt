@@ -10,13 +10,13 @@ use Rattle.line_texts.proofs.pieces.piece_end.Statement.{statement}
 use Rattle.line_texts.proofs.pieces.piece_end.Tie as tie
 
 abbrev Inv-loop : tie.InvT-loop
-Inv-loop text from i₀ i = (from ≤ i) × (i ≤ length text) × Passed text from i
+Inv-loop text sep from i₀ i = (from ≤ i) × (i ≤ length text) × Passed sep text from i
 
 abbrev μ-loop : tie.MeasureT-loop
-μ-loop text from i₀ i = length text - i
+μ-loop text sep from i₀ i = length text - i
 
 loop-holds : tie.Need-loop-holds Inv-loop μ-loop
-loop-holds c = (omega arith, c .pre, passed-none (now (c .args .text)) (c .args .from))
+loop-holds c = (omega arith, c .pre, passed-none (c .args .sep) (now (c .args .text)) (c .args .from))
 
 returns : tie.Need-returns Inv-loop μ-loop
 returns c =
@@ -25,7 +25,8 @@ returns c =
     record {
       low = l .loop .inv .0;
       high = l .loop .inv .1;
-      cut = passed-separator (now (a .text)) (a .from) (l .loop .i) (omega arith) (c .if1 .taken) (l .loop .inv .2);
+      cut = passed-separator (a .sep) (now (a .text)) (a .from) (l .loop .i) (omega arith) (c .if1 .taken)
+          (l .loop .inv .2);
     }
 
 loop-again : tie.Need-loop-again Inv-loop μ-loop
@@ -34,7 +35,7 @@ loop-again c =
     let a = l .before .args in (
       omega arith,
       omega arith,
-      passed-on (now (a .text)) (a .from) (l .loop .i) (l .loop .inv .0) (omega arith)
+      passed-on (a .sep) (now (a .text)) (a .from) (l .loop .i) (l .loop .inv .0) (omega arith)
           (c .if1 .left) (l .loop .inv .2),
     )
 
@@ -45,7 +46,7 @@ returns-2 c =
     record {
       low = l .loop .inv .0;
       high = l .loop .inv .1;
-      cut = passed-all (now (a .text)) (a .from) (l .loop .i) (omega arith) (l .loop .inv .2);
+      cut = passed-all (a .sep) (now (a .text)) (a .from) (l .loop .i) (omega arith) (l .loop .inv .2);
     }
 
 -- ---- found by search

@@ -9,12 +9,14 @@ use Rattle.line_texts.proofs.pieces.piece_fits.Tie as tie
 
 returns : tie.Need-returns
 returns c =
-    sym (piece-empty (c .before .before .before .args .column) (now (c .before .before .before .args .piece))
+    sym (piece-empty (c .before .before .before .args .sep) (c .before .before .before .args .column) (now
+    (c .before .before .before .args .piece))
     (c .before .if1 .taken))
 
 returns-2 : tie.Need-returns-2
 returns-2 c =
-    c .value-fits .ensures ∙ sym (piece-value (c .before .before .before .args .column)
+    c .value-fits .ensures ∙ sym (piece-value (c .before .before .before .args .sep)
+    (c .before .before .before .args .column)
     (now (c .before .before .before .args .piece)) (c .before .if1 .left))
 
 -- ---- found by search

@@ -30,7 +30,7 @@ number-said-requires c κs =
     let size : a .at + a .len - a .at ≡ a .len = omega arith in
     let is = sym (c .before .before .is-number .ensures) ∙ c .before .if2 .taken in
     rw size (rw (
-      piece-value (a .column) (part (a .at) (a .len) (now (a .text))) (some (c .before .before .before)),
+      piece-value (a .sep) (a .column) (part (a .at) (a .len) (now (a .text))) (some (c .before .before .before)),
       is,
     ) at (s .pre .2))
 

@@ -11,17 +11,18 @@ use Rattle.prelude.specs.Each.{each}
 use Rattle.prelude.proofs.Each.{each-ends, each-fails, each-on}
 use Rattle.line_layouts.specs.Columns.{columns}
 use Rattle.line_layouts.specs.Entries.{Entry, Missing, entriesOf}
-use Rattle.lines.specs.Writing.{entryAllowed}
+use Rattle.line_layouts.specs.Names.{entryAllowed}
 use Rattle.line_layouts.proofs.Laid.{said-at, length-entries}
 use Rattle.lines.proofs.writing.line_allowed.Statement.{statement}
 use Rattle.lines.proofs.writing.line_allowed.Tie as tie
 
 abbrev Inv-loop : tie.InvT-loop
-Inv-loop source line count j₀ j =
-    (j ≤ count) × (each entryAllowed (entriesOf source line) ≡ each entryAllowed (drop j (entriesOf source line)))
+Inv-loop sep source line count j₀ j =
+    (j ≤ count) × (each (entryAllowed sep) (entriesOf source line) ≡ each (entryAllowed sep) (drop j
+    (entriesOf source line)))
 
 abbrev μ-loop : tie.MeasureT-loop
-μ-loop source line count j₀ j = count - j
+μ-loop sep source line count j₀ j = count - j
 
 loop-holds : tie.Need-loop-holds Inv-loop μ-loop
 loop-holds c = (omega arith, refl)
@@ -45,7 +46,7 @@ returns c =
     let es = entriesOf (now (a .source)) (a .line) in
     let told = c .before .said-allowed in
     let inside : j < length (columns (a .line .tag)) = omega arith in
-    sym (l .loop .inv .1 ∙ each-fails Entry entryAllowed es j Missing
+    sym (l .loop .inv .1 ∙ each-fails Entry (entryAllowed (a .sep)) es j Missing
     (omega (arith, length-entries (now (a .source)) (a .line) seven))
     (rw (said-at (now (a .source)) (a .line) seven j inside, ← c .before .before .said-at .ensures)
     (sym (told .ensures) ∙ not-true (told .result) (c .if1 .taken))))
@@ -62,7 +63,7 @@ loop-again c =
     let told = c .before .said-allowed in
     let inside : j < length (columns (a .line .tag)) = omega arith in (
       omega arith,
-      l .loop .inv .1 ∙ each-on Entry entryAllowed es j Missing
+      l .loop .inv .1 ∙ each-on Entry (entryAllowed (a .sep)) es j Missing
           (omega (arith, length-entries (now (a .source)) (a .line) seven))
           (rw (said-at (now (a .source)) (a .line) seven j inside, ← c .before .before .said-at .ensures)
           (sym (told .ensures) ∙ not-false (told .result) (c .if1 .left))),
@@ -74,7 +75,8 @@ returns-2 c =
     let s = l .before .before .before in
     let a = s .args in
     let count = l .before .column-count .ensures .0 in
-    sym (l .loop .inv .1 ∙ each-ends Entry entryAllowed (entriesOf (now (a .source)) (a .line)) (l .loop .j) Missing
+    sym (l .loop .inv .1 ∙ each-ends Entry (entryAllowed (a .sep)) (entriesOf (now (a .source)) (a .line))
+    (l .loop .j) Missing
     (omega (arith, length-entries (now (a .source)) (a .line) (s .pre .seven))))
 
 -- ---- found by search

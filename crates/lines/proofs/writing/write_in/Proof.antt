@@ -1,25 +1,29 @@
 -- `lines::writing::write_in` meets its contract: a record without fault has its fields within its body.
 -- Assumes nothing.
-use mathlib.Core.Path.{_≡_}
-use native.Mathlib.Omega.{arith}
-use lib.Seq.{getD-drop}
+use mathlib.Core.Path.{_≡_, sym, _∙_}
+use mathlib.Core.Bool.{true}
 use denote.Ref.{now}
 use borrow.Author.Needs.{needs}
+use Rattle.prelude.proofs.Parts.{part-from}
+use Rattle.frames.specs.Frames.{body, isRecord}
 use Rattle.frames.proofs.Laws.{record-header}
-use Rattle.line_layouts.specs.declared.Fault.the-variants.{None}
-use Rattle.line_records.specs.Records.{judged}
-use Rattle.line_records.proofs.Judges.{part-rest, none-frame, none-within}
+use Rattle.line_layouts.specs.Entries.{meaningOf}
+use Rattle.line_records.proofs.Judges.{says-record}
 use Rattle.lines.proofs.writing.write_in.Statement.{statement}
 use Rattle.lines.proofs.writing.write_in.Tie as tie
 
-none : (c : tie.After-enum-told) → judged (c .before .before .before .before .before .before .args .order)
-    (now (c .before .before .before .before .before .before .args .«record»)) .fault ≡ None
-none c = rw (c .before .before .before .judge-record .ensures) at (c .enum-told .given .1)
+framed : (c : tie.After-enum-told) → isRecord (c .before .before .before .before .before .before .args .order)
+    (now (c .before .before .before .before .before .before .args .«record»)) ≡ true
+framed c =
+    let a = c .before .before .before .before .before .before .args in
+    let judge = c .before .before .before .judge-record in
+    says-record (a .order) (now (a .«record»)) (meaningOf (body (now (a .«record»))) (judge .result .line))
+    (sym (judge .ensures .means) ∙ rw (c .enum-told .given .1))
 
 sub-write-said : tie.Need-sub-write-said
 sub-write-said c =
     let a = c .before .before .before .before .before .before .before .args in
-    record-header (a .order) (now (a .«record»)) (none-frame (a .order) (now (a .«record»)) (none (c .before)))
+    record-header (a .order) (now (a .«record»)) (framed (c .before))
 
 part-write-said-start : tie.Need-part-write-said-start
 part-write-said-start c = sub-write-said c
@@ -27,22 +31,19 @@ part-write-said-start c = sub-write-said c
 write-said-requires : tie.Need-write-said-requires
 write-said-requires c κs =
     let s = c .before .before .before .before .before .before .before .before in
-    let bytes = now (s .args .«record») in
-    rw (part-rest 4 bytes, c .before .before .before .before .before .judge-record .ensures)
-    (none-within (s .args .order) bytes (none (c .before .before))
-    (rw (getD-drop 4 bytes 9 0)
-    (omega (arith, c .before .before .before .before .before .before .shared-slice-known .given 13))))
+    rw (part-from (now (s .args .«record»)) 4)
+    (c .before .before .before .before .before .judge-record .ensures .there (c .before .before .enum-told .given .1))
 
 returns : tie.Need-returns
 returns c =
-    rw (← c .before .before .before .before .judge-record .ensures, c .before .fault .given .1)
+    rw (← c .before .before .before .before .judge-record .ensures .means, c .before .fault .given .1)
 
 returns-2 : tie.Need-returns-2
 returns-2 c =
     let a = c .before .before .before .before .before .before .before .before .before .before .before .args in
     let judge = c .before .before .before .before .before .before .before .before .judge-record .ensures in
-    rw (none (c .before .before .before .before .before), ← judge)
-    (rw (part-rest 4 (now (a .«record»))) at (c .before .before .write-said .ensures))
+    rw (← judge .means, c .before .before .before .before .before .enum-told .given .1)
+    (rw (part-from (now (a .«record»)) 4) at (c .before .before .write-said .ensures))
 
 -- ---- found by search
 

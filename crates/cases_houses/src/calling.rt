@@ -1,0 +1,55 @@
+// What the calls answer.
+use answers::Answer;
+use answers::number;
+use calls::close_slot;
+use calls::deliver;
+use calls::figures;
+use calls::open_slot;
+use case_lines::say_values;
+use house::House;
+use reports::judge_report;
+
+fn wide(answer: Answer) -> u64 {
+    number(answer) as u64
+}
+
+// The figures are told of a sound house only: of another there are none.
+fn say_figures(h: House) {
+    let f = figures(h);
+    let answer = f.answer;
+    let n = wide(answer);
+    let values = [n, f.free as u64, f.promised as u64, 0, 0, 0, 0, 0];
+    if n == 0 {
+        return say_values(b", figures |, | free, | promised\n", values);
+    }
+    say_values(b", figures |\n", values);
+}
+
+pub(crate) fn say_calls(h: House) {
+    let opened = open_slot(h, 15, 0);
+    let open = opened.answer;
+    let delivered = deliver(h, 0, b"");
+    let delivering = delivered.answer;
+    let reported = judge_report(h, 0, 1024);
+    let report = reported.answer;
+    let closed = close_slot(h, 0);
+    let close = closed.answer;
+    let values = [
+        wide(open),
+        wide(delivering),
+        wide(report),
+        wide(close),
+        0,
+        0,
+        0,
+        0,
+    ];
+    say_values(b" open |, deliver |, report |, close |", values);
+    say_figures(h);
+}
+
+pub(crate) fn say_delivered(h: House, rec: &[u8]) {
+    let delivered = deliver(h, 0, rec);
+    let answer = delivered.answer;
+    say_values(b" |\n", [wide(answer), 0, 0, 0, 0, 0, 0, 0]);
+}

@@ -1,0 +1,71 @@
+// A call on the house, played, and what is written of what came back. A report is over a slice of LENGTH rows; no
+// report has more than 1,024, so a longer one is as good as one of 1,024.
+use house::House;
+use house::Row;
+use plays::Call;
+use plays::Played;
+use plays::play;
+use transcript::say;
+use transcript::say_answer;
+use transcript::say_number;
+ghost use Prim.Native.Nat.{_≤_};
+
+fn say_row(row: Row) {
+    say(b" ");
+    say_number(row.head as u64);
+    say(b"/");
+    say_number(row.site as u64);
+    say(b"/");
+    say_number(row.bin as u64);
+    say(b"=");
+    say_number(row.count as u64);
+}
+
+// How many rows there are, and the rows.
+fn say_rows(rows: [Row; 1024], count: usize)
+    requires { ⌜ count ≤ 1024 ⌝ }
+{
+    say(b" ");
+    say_number(count as u64);
+    let mut i: usize = 0;
+    while i < count {
+        say_row(rows[i]);
+        i += 1;
+    }
+}
+
+fn say_figures(free: u32, promised: u32) {
+    say(b" ");
+    say_number(free as u64);
+    say(b" ");
+    say_number(promised as u64);
+}
+
+// What a call that is done found, if it asked for something.
+fn say_found(call: Call, done: Played)
+    requires { ⌜ done .count ≤ 1024 ⌝ }
+{
+    let rows = done.rows;
+    match call {
+        Call::Report(_, _) => say_rows(rows, done.count),
+        Call::Figures => say_figures(done.free, done.promised),
+        _ => say(b""),
+    }
+}
+
+fn played(house: House, call: Call, rec: &[u8]) -> Played
+    ensures { λ r. ⌜ r .count ≤ 1024 ⌝ }
+{
+    play(house, call, rec)
+}
+
+pub(crate) fn house_call(house: House, call: Call, rec: &[u8]) -> House {
+    let done = played(house, call, rec);
+    let answer = done.answer;
+    say_answer(answer);
+    if answers::number(answer) == 0 {
+        say_found(call, done);
+    }
+    say(b"\n");
+    done.house
+}

@@ -1,0 +1,18 @@
+-- `later_records::judge_mrr` meets its contract: each return is one case of `judgeMrr`.
+-- Assumes nothing.
+use mathlib.Core.Path.{sym}
+use Rattle.later_records.proofs.Laws.{mrr-open, mrr-ends, mrr-no-pcr}
+use Rattle.later_records.proofs.judge_mrr.Statement.{statement}
+use Rattle.later_records.proofs.judge_mrr.Tie as tie
+
+returns : tie.Need-returns
+returns c = sym (mrr-open _ (c .if1 .taken))
+
+returns-2 : tie.Need-returns-2
+returns-2 c = sym (mrr-ends _ (c .before .if1 .left) (c .if2 .taken))
+
+returns-3 : tie.Need-returns-3
+returns-3 c = sym (mrr-no-pcr _ (c .before .if1 .left) (c .if2 .left))
+
+pub judge-mrr-spec : {M : Type 1} → statement M
+judge-mrr-spec = tie.close (tie.spec returns returns-2 returns-3)

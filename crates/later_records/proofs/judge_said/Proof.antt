@@ -1,0 +1,123 @@
+-- `later_records::judge_said` meets its contract: each arm is one case of `judgeSaid`.
+-- Assumes nothing.
+use mathlib.Core.Path.{ap, _∙_}
+use Prim.Native.Nat.{ℕ}
+use lib.ListN.{take}
+use denote.Ref.{now}
+use borrow.Author.Needs.{needs}
+use Rattle.session.specs.declared.Standing.{Standing}
+use Rattle.session.specs.declared.Verdict.the-variants.{Taken}
+use Rattle.session.specs.Verdicts.{stands}
+use Rattle.later_records.specs.Later.{judgePir, judgePrr}
+use Rattle.later_records.proofs.judge_said.Statement.{statement}
+use Rattle.later_records.proofs.judge_said.Tie as tie
+
+returns : tie.Need-returns
+returns c =
+    let a = c .before .before .before .before .before .before .args in
+    rw (c .before .before .before .said .given .1)
+    (c .judge-pir .ensures
+    ∙ ap (judgePir (a .st) (take (a .st .opened) (now (a .parts)))) (c .before .part-of .ensures))
+
+returns-2 : tie.Need-returns-2
+returns-2 c =
+    let a = c .before .before .before .before .before .before .before .args in
+    let judged = judgePrr (a .st) (take (a .st .opened) (now (a .parts))) in
+    rw (c .before .before .before .before .said2 .given .1)
+    (c .judge-prr .ensures
+    ∙ ap (λ (part : ℕ). judged part (c .before .key-of .result)) (c .before .before .part-of2 .ensures)
+    ∙ ap (judged _) (c .before .key-of .ensures))
+
+returns-3 : tie.Need-returns-3
+returns-3 c = rw (c .before .enum-told .given .1) (c .judge-mrr .ensures)
+
+returns-4 : tie.Need-returns-4
+returns-4 c =
+    rw (c .before .enum-told2 .given .1) (ap (λ (st : Standing). Taken (stands st)) (c .with-pcr .ensures))
+
+returns-5 : tie.Need-returns-5
+returns-5 c = rw (c .enum-told3 .given .1)
+
+returns-6 : tie.Need-returns-6
+returns-6 c = rw (c .enum-told4 .given .1)
+
+returns-7 : tie.Need-returns-7
+returns-7 c = rw (c .enum-told5 .given .1)
+
+returns-8 : tie.Need-returns-8
+returns-8 c = rw (c .enum-told6 .given .1)
+
+-- ---- found by search
+
+enum-known-said : tie.Need-enum-known-said
+enum-known-said c = search needs
+
+part-of-requires : tie.Need-part-of-requires
+part-of-requires c κs = search needs
+
+judge-pir-requires : tie.Need-judge-pir-requires
+judge-pir-requires c κs = search needs
+
+enum-known-said-2 : tie.Need-enum-known-said-2
+enum-known-said-2 c = search needs
+
+part-of-requires-2 : tie.Need-part-of-requires-2
+part-of-requires-2 c κs = search needs
+
+key-of-requires : tie.Need-key-of-requires
+key-of-requires c κs = search needs
+
+judge-prr-requires : tie.Need-judge-prr-requires
+judge-prr-requires c κs = search needs
+
+enum-told : tie.Need-enum-told
+enum-told c = search needs
+
+judge-mrr-requires : tie.Need-judge-mrr-requires
+judge-mrr-requires c κs = search needs
+
+enum-told-2 : tie.Need-enum-told-2
+enum-told-2 c = search needs
+
+with-pcr-requires : tie.Need-with-pcr-requires
+with-pcr-requires c κs = search needs
+
+enum-told-3 : tie.Need-enum-told-3
+enum-told-3 c = search needs
+
+enum-told-4 : tie.Need-enum-told-4
+enum-told-4 c = search needs
+
+enum-told-5 : tie.Need-enum-told-5
+enum-told-5 c = search needs
+
+enum-told-6 : tie.Need-enum-told-6
+enum-told-6 c = search needs
+
+pub judge-said-spec : {M : Type 1} → statement M
+judge-said-spec =
+    tie.close
+    (tie.spec
+    enum-known-said
+    part-of-requires
+    judge-pir-requires
+    enum-known-said-2
+    part-of-requires-2
+    key-of-requires
+    judge-prr-requires
+    enum-told
+    judge-mrr-requires
+    enum-told-2
+    with-pcr-requires
+    enum-told-3
+    enum-told-4
+    enum-told-5
+    enum-told-6
+    returns
+    returns-2
+    returns-3
+    returns-4
+    returns-5
+    returns-6
+    returns-7
+    returns-8)

@@ -1,0 +1,104 @@
+// A call of the house as a value, and one function that plays it: document 01, "The house, its slots and its rows",
+// Calls. What sits above a house by lines or files (the desk, a replay) makes such a value and says what comes back.
+use answers::Answer;
+use house::Answered;
+use house::Figures;
+use house::House;
+use house::Listing;
+use house::Row;
+use reports::list_rows;
+ghost use mathlib.Core.Path.{_≡_};
+ghost use Rattle.house.specs.Report.{noRows};
+ghost use Rattle.house.specs.History.{Reply};
+ghost use Rattle.plays.specs.Plays.{asks, holds, listedAs, played};
+
+// The five calls. An enum holds no reference, so the bytes of a record are lent beside it.
+pub enum Call {
+    Open(u32, u32),
+    Deliver(u32),
+    Report(u32, usize),
+    Close(u32),
+    Figures,
+}
+
+// What a call is answered, and the house after it. Figures and rows are nothing where the call asks for none.
+pub struct Played {
+    pub answer: Answer,
+    pub free: u32,
+    pub promised: u32,
+    pub count: usize,
+    pub rows: [Row; 1024],
+    pub house: House,
+}
+
+fn no_rows() -> [Row; 1024]
+    ensures { λ r. ⌜ r ≡ noRows ⌝ }
+{
+    let row = Row {
+        head: 0,
+        site: 0,
+        bin: 0,
+        count: 0,
+    };
+    [row; 1024]
+}
+
+fn told(done: Answered) -> Played
+    ensures { λ r. ⌜ r ≡ holds (Reply.Told (done .answer)) (done .house) ⌝ }
+{
+    let answer = done.answer;
+    let house = done.house;
+    let rows = no_rows();
+    Played {
+        answer,
+        free: 0,
+        promised: 0,
+        count: 0,
+        rows,
+        house,
+    }
+}
+
+fn read(found: Figures, house: House) -> Played
+    ensures { λ r. ⌜ r ≡ holds (Reply.Read found) house ⌝ }
+{
+    let answer = found.answer;
+    let rows = no_rows();
+    Played {
+        answer,
+        free: found.free,
+        promised: found.promised,
+        count: 0,
+        rows,
+        house,
+    }
+}
+
+fn listed(list: Listing, house: House) -> Played
+    ensures { λ r. ⌜ r ≡ listedAs list house ⌝ }
+{
+    let reported = list.reported;
+    let answer = reported.answer;
+    let rows = list.rows;
+    Played {
+        answer,
+        free: 0,
+        promised: 0,
+        count: reported.rows,
+        rows,
+        house,
+    }
+}
+
+// Plays a call. The bytes of `rec` are the record of a delivery; no other call looks at them.
+pub fn play(house: House, call: Call, rec: &[u8]) -> Played
+    ensures { λ r. ⌜ r ≡ played house (asks call (now (rec .entry))) ⌝ }
+{
+    match call {
+        Call::Open(slot, floor) => told(calls::open_slot(house, slot, floor)),
+        Call::Deliver(slot) => told(calls::deliver(house, slot, rec)),
+        Call::Report(slot, long) => listed(list_rows(house, slot, long), house),
+        Call::Close(slot) => told(calls::close_slot(house, slot)),
+        Call::Figures => read(calls::figures(house), house),
+    }
+}

@@ -1,0 +1,52 @@
+-- `requests::asking::report_asked` meets its contract: both words are numbers.
+-- Assumes nothing.
+use borrow.Author.Needs.{needs}
+use Rattle.requests.proofs.asking.report_asked.Statement.{statement}
+use Rattle.requests.proofs.asking.report_asked.Tie as tie
+
+returns : tie.Need-returns
+returns c = rw (c .enum-told .given .1)
+
+returns-2 : tie.Need-returns-2
+returns-2 c =
+    let read = c .before .before in
+    rw (read .before .before .slot .given .1, ← read .number-of .ensures, c .enum-told2 .given .1)
+
+returns-3 : tie.Need-returns-3
+returns-3 c =
+    let read = c .before .before .before in
+    rw (read .before .before .slot .given .1, ← read .number-of .ensures, c .before .long .given .1)
+
+-- ---- found by search
+
+enum-known-slot : tie.Need-enum-known-slot
+enum-known-slot c = c .match .keys1
+
+enum-told : tie.Need-enum-told
+enum-told c = c .match .keys2
+
+number-of-requires : tie.Need-number-of-requires
+number-of-requires c κs = tt
+
+enum-known-long : tie.Need-enum-known-long
+enum-known-long c = c .match2 .keys1
+
+enum-told-2 : tie.Need-enum-told-2
+enum-told-2 c = c .match2 .keys2
+
+cast-t6 : tie.Need-cast-t6
+cast-t6 c = search needs
+
+pub report-asked-spec : {M : Type 1} → statement M
+report-asked-spec =
+    tie.close
+    (tie.spec
+    enum-known-slot
+    enum-told
+    returns
+    number-of-requires
+    enum-known-long
+    enum-told-2
+    returns-2
+    cast-t6
+    returns-3)

@@ -1,0 +1,50 @@
+-- `requests::cutting::takes_record` meets its contract: each arm is one case of `takesRecord`.
+-- Assumes nothing.
+use borrow.Author.Needs.{needs}
+use Rattle.requests.proofs.cutting.takes_record.Statement.{statement}
+use Rattle.requests.proofs.cutting.takes_record.Tie as tie
+
+enum-told : tie.Need-enum-told
+enum-told c = c .match .keys1
+
+enum-told-2 : tie.Need-enum-told-2
+enum-told-2 c = c .match .keys2
+
+enum-told-3 : tie.Need-enum-told-3
+enum-told-3 c = c .match .keys3
+
+enum-told-4 : tie.Need-enum-told-4
+enum-told-4 c = c .match .keys4
+
+enum-told-5 : tie.Need-enum-told-5
+enum-told-5 c = c .match .keys5
+
+returns : tie.Need-returns
+returns c = search needs
+
+returns-2 : tie.Need-returns-2
+returns-2 c = search needs
+
+returns-3 : tie.Need-returns-3
+returns-3 c = search needs
+
+returns-4 : tie.Need-returns-4
+returns-4 c = search needs
+
+returns-5 : tie.Need-returns-5
+returns-5 c = search needs
+
+pub takes-record-spec : {M : Type 1} → statement M
+takes-record-spec =
+    tie.close
+    (tie.spec
+    enum-told
+    enum-told-2
+    enum-told-3
+    enum-told-4
+    enum-told-5
+    returns
+    returns-2
+    returns-3
+    returns-4
+    returns-5)

@@ -1,0 +1,26 @@
+// The tally of one whole stream, told in chunks: document 01, "Tally program". Its records go to slot 0 of a house that
+// has no other slot open, and at the end there is a text. What is promised is a function of all bytes, whatever the
+// chunks were: specs/Following.antt and specs/Text.antt.
+mod chunks;
+mod ending;
+
+pub use chunks::begin;
+pub use chunks::follow;
+pub use ending::finish;
+use session::Standing;
+use walking::Fate;
+
+// A stream as far as it was followed: slot 0's rows and session, the number of records accepted, and how many bytes
+// of an unfinished record are held. They stand at the front of the lent buffer. No text depends on the guesses, by
+// which rows are looked for.
+pub struct Stream {
+    pub keys: [u64; 1024],
+    pub counts: [u64; 1024],
+    pub used: usize,
+    pub guesses: [u16; 4096],
+    pub standing: Standing,
+    pub parts: [u64; 32],
+    pub accepted: u64,
+    pub fate: Fate,
+    pub held: usize,
+}
