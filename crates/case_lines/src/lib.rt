@@ -18,6 +18,7 @@ use script::unhex;
 use script::word_end;
 use transcript::say;
 ghost use mathlib.Core.Path.{_≡_};
+ghost use mathlib.Core.Bool.{false};
 ghost use Prim.Native.Nat.{_+_, _≤_};
 ghost use lib.ListN.{length};
 
@@ -36,7 +37,9 @@ struct Asked {
 }
 
 // No line has come.
-pub fn begin() -> Call {
+pub fn begin() -> Call
+    ensures { λ r. ⌜ (r .verb ≡ 0) × (r .bytes ≡ 0) × (r .ended ≡ false) ⌝ }
+{
     let input = input::begin();
     Call {
         input,

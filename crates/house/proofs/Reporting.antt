@@ -3,13 +3,13 @@
 -- Assumes nothing.
 use mathlib.Core.Path.{_≡_, refl, ap, sym, _∙_}
 use mathlib.Core.Bool.{Bool, true, false, cond, false≢true}
-use mathlib.Core.List.{List, [], _∷_}
+use mathlib.Core.List.{List, [], _∷_, _++_}
 use Prim.Native.Nat.{ℕ, zero, suc, _+_, _≤_, _<_, min}
 use native.Mathlib.Omega.{arith}
 use borrow.Author.Tests.{le-leb, lt-leb, leb-true, lt-ltb, le-ltb, ltb-true, ltb-false}
 use lib.Dec.{ltb}
-use lib.ListN.{length, getD, set, length-set, length-take}
-use lib.Seq.{getD-take, getD-set-same, getD-set-other, length-take-le}
+use lib.ListN.{length, getD, set, drop, length-append, length-set, length-take}
+use lib.Seq.{getD-take, getD-set-same, getD-set-other, length-take-le, drop-cons, set-at, append-snoc}
 use Rattle.prelude.specs.All.{all}
 use Rattle.prelude.specs.Checks.{tests}
 use Rattle.prelude.proofs.All.{all-at}
@@ -26,8 +26,8 @@ use Rattle.house.specs.declared.Reported.{Reported}
 use Rattle.house.specs.House.{rowCount, noSlot, keysOf, countsOf, takenOf, rowsSound, sound}
 use Rattle.house.specs.Calls.{slotAt, slotChecks}
 use Rattle.house.specs.Deliver.{pastCounts}
-use Rattle.house.specs.Report.{keyedRow, rowAt, rowsOf, rowsFrom, unreported, reportChecks, reported, filled}
-use Rattle.house.specs.Report.{noRows, listing}
+use Rattle.house.specs.Report.{keyedRow, rowAt, rowsOf, rowsFrom, unreported, reportChecks, reported, listed}
+use Rattle.house.specs.Report.{filled, noRows, listing}
 use Rattle.house.proofs.Calling.{OpenSlot, slot-told, told-within, told-rows, IsOpen, is-open}
 
 -- ---- the answers
@@ -224,3 +224,18 @@ module _ (h : House) (slot long : ℕ) where
   unfolding listing
   listing-at i d low =
       filled-at (rowAt h slot) (reported h slot long .rows) noRows i d (omega (arith, listing-few)) low
+
+-- ---- rows listed, and a slice filled with them
+
+pub length-listed : (row : ℕ → Row) (n : ℕ) → length (listed row n) ≡ n
+length-listed row zero = refl
+length-listed row (suc n) = rw (length-append, length-listed row n) (omega arith)
+
+-- a slice filled is the rows listed, and behind them what stood there
+pub filled-listed : (row : ℕ → Row) (n : ℕ) (old : List Row) → n ≤ length old
+    → filled row n old ≡ listed row n ++ drop n old
+filled-listed row zero old h = refl
+filled-listed row (suc n) old h =
+    rw (filled-listed row n old (omega arith), drop-cons old n (row n) (omega arith))
+    (set-at (listed row n) _ (drop (suc n) old) (row n) n (length-listed row n)
+    ∙ sym (append-snoc (listed row n) (row n) (drop (suc n) old)))

@@ -41,7 +41,9 @@ struct Gathered {
 }
 
 // Nothing is read yet.
-pub fn begin() -> Input {
+pub fn begin() -> Input
+    ensures { λ r. ⌜ (r .got ≡ 0) × (r .left ≡ 0) ⌝ }
+{
     Input { got: 0, left: 0 }
 }
 

@@ -11,6 +11,7 @@ use Prim.Native.Nat.{ℕ, _+_, _/_, _%_, _≤_, _<_}
 use lib.ListN.{length, take}
 use Rattle.numbers.specs.Laws.{Bytes}
 use Rattle.answers.specs.declared.Answer.{Answer}
+use Rattle.values.specs.Values.{mostBin}
 use Rattle.numbers.specs.declared.Order.{Order}
 use Rattle.session.specs.declared.Session.{Session}
 use Rattle.session.specs.declared.Standing.{Standing}
@@ -67,7 +68,7 @@ JudgedLong = (s : Session) (rec : List ℕ) → length (s .parts) ≡ mostOpen �
 abbrev pub KeyRight : Verdict → Type 0
 KeyRight (Refused a) = Unit
 KeyRight (Taken change) = Unit
-KeyRight (Wanted change key) = (key / 65536 < pastParts) × (key % 65536 ≤ 32767)
+KeyRight (Wanted change key) = (key / 65536 < pastParts) × (key % 65536 ≤ mostBin)
 
 -- a row is asked for under a key that a row may have
 abbrev pub JudgedKey : Type 0

@@ -1,17 +1,15 @@
 -- The statements of specs/Plays.antt, proved; and a report by value as the rows that a sequence of calls lists.
 -- Assumes nothing.
-use mathlib.Core.Path.{_≡_, refl, ap, sym, _∙_}
-use mathlib.Core.List.{List, _++_}
-use Prim.Native.Nat.{ℕ, zero, suc, _≤_}
+use mathlib.Core.Path.{_≡_, refl, ap}
+use mathlib.Core.List.{List}
+use Prim.Native.Nat.{ℕ, _≤_}
 use native.Mathlib.Omega.{arith}
-use lib.ListN.{length, drop, length-append}
-use lib.Seq.{drop-cons, set-at, take-append-seam, append-snoc}
+use lib.Seq.{take-append-seam}
 use Rattle.house.specs.declared.House.{House}
-use Rattle.house.specs.declared.Row.{Row}
 use Rattle.house.specs.House.{rowCount}
-use Rattle.house.specs.Report.{rowAt, reported, listed, filled, noRows, listing}
+use Rattle.house.specs.Report.{rowAt, reported, listed, noRows, listing}
 use Rattle.house.specs.History as history
-use Rattle.house.proofs.Reporting.{listing-few}
+use Rattle.house.proofs.Reporting.{listing-few, length-listed, filled-listed}
 use Rattle.house.specs.declared.Answered.{Answered}
 use Rattle.house.specs.declared.Figures as house-figures
 use Rattle.house.specs.declared.Listing.{Listing}
@@ -20,19 +18,6 @@ use Rattle.house.specs.History.{Told, Read}
 use Rattle.plays.specs.declared.Call.{Call}
 use Rattle.plays.specs.declared.Call.the-variants.{Open, Deliver, Report, Close, Figures}
 use Rattle.plays.specs.Plays.{asks, holds, played, listedAs, RepliedPlayed, AfterPlayed, PlayedFew}
-
-length-listed : (row : ℕ → Row) (n : ℕ) → length (listed row n) ≡ n
-length-listed row zero = refl
-length-listed row (suc n) = rw (length-append, length-listed row n) (omega arith)
-
--- a slice filled is the rows listed, and behind them what stood there
-filled-listed : (row : ℕ → Row) (n : ℕ) (old : List Row) → n ≤ length old
-    → filled row n old ≡ listed row n ++ drop n old
-filled-listed row zero old h = refl
-filled-listed row (suc n) old h =
-    rw (filled-listed row n old (omega arith), drop-cons old n (row n) (omega arith))
-    (set-at (listed row n) _ (drop (suc n) old) (row n) n (length-listed row n)
-    ∙ sym (append-snoc (listed row n) (row n) (drop (suc n) old)))
 
 module _ (h : House) (slot long : ℕ) where
   few : reported h slot long .rows ≤ rowCount

@@ -16,6 +16,7 @@ use lib.ListN.{length, take, replicate}
 use Rattle.prelude.specs.All.{all}
 use Rattle.numbers.specs.declared.Order.{Order}
 use Rattle.numbers.specs.declared.Order.the-variants.{HighFirst}
+use Rattle.values.specs.Values.{allSites}
 use Rattle.order.specs.declared.Place.{Place}
 use Rattle.order.specs.declared.Place.the-variants.{Start, Header, Lot, Setup, Body, Ended}
 use Rattle.rising.specs.Rising.{rising, allBelow}
@@ -38,7 +39,7 @@ keyOf head site bin = partOf head site * 65536 + bin
 
 -- heads at most 254
 abbrev pub pastParts : ℕ
-pastParts = partOf 255 0
+pastParts = partOf allSites 0
 
 abbrev pub partsOf : Session → List ℕ
 partsOf s = take (s .standing .opened) (s .parts)

@@ -1,6 +1,7 @@
 // A stream, chunk by chunk. The bytes of an unfinished record stay at the front of the buffer, and the next chunk is
 // read behind them: no chunk is copied.
 use crate::Stream;
+use house::House;
 use house::Room;
 use session::Session;
 use walking::Fate;
@@ -37,8 +38,8 @@ pub fn begin() -> Stream
     let standing = session.standing;
     let parts = session.parts;
     Stream {
-        keys: [0; 1024],
-        counts: [0; 1024],
+        keys: [0; House::ROWS],
+        counts: [0; House::ROWS],
         used: 0,
         guesses: [0; 4096],
         standing,

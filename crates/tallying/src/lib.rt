@@ -7,6 +7,7 @@ mod ending;
 pub use chunks::begin;
 pub use chunks::follow;
 pub use ending::finish;
+use house::House;
 use session::Standing;
 use walking::Fate;
 
@@ -14,8 +15,8 @@ use walking::Fate;
 // of an unfinished record are held. They stand at the front of the lent buffer. No text depends on the guesses, by
 // which rows are looked for.
 pub struct Stream {
-    pub keys: [u64; 1024],
-    pub counts: [u64; 1024],
+    pub keys: [u64; House::ROWS],
+    pub counts: [u64; House::ROWS],
     pub used: usize,
     pub guesses: [u16; 4096],
     pub standing: Standing,
