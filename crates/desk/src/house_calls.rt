@@ -1,8 +1,8 @@
 // A call on the house, played, and what is written of what came back. A report is over a slice of LENGTH rows; no
 // report has more than 1,024, so a longer one is as good as one of 1,024.
+use asked_calls::Call;
 use house::House;
 use house::Row;
-use plays::Call;
 use plays::Played;
 use plays::play;
 use transcript::say;

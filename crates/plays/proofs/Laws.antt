@@ -15,8 +15,8 @@ use Rattle.house.specs.declared.Figures as house-figures
 use Rattle.house.specs.declared.Listing.{Listing}
 use Rattle.house.specs.Calls.{openSlot, closeSlot, deliver, figuresOf}
 use Rattle.house.specs.History.{Told, Read}
-use Rattle.plays.specs.declared.Call.{Call}
-use Rattle.plays.specs.declared.Call.the-variants.{Open, Deliver, Report, Close, Figures}
+use Rattle.asked_calls.specs.declared.Call.{Call}
+use Rattle.asked_calls.specs.declared.Call.the-variants.{Open, Deliver, Report, Close, Figures}
 use Rattle.plays.specs.Plays.{asks, holds, played, listedAs, RepliedPlayed, AfterPlayed, PlayedFew}
 
 module _ (h : House) (slot long : ℕ) where

@@ -16,8 +16,8 @@ use Rattle.house.specs.House.{rowCount}
 use Rattle.house.specs.Report.{noRows}
 use Rattle.house.specs.History as history
 use Rattle.house.specs.History.{Reply, Told, Listed, Read, reply, after}
-use Rattle.plays.specs.declared.Call.{Call}
-use Rattle.plays.specs.declared.Call.the-variants.{Open, Deliver, Report, Close, Figures}
+use Rattle.asked_calls.specs.declared.Call.{Call}
+use Rattle.asked_calls.specs.declared.Call.the-variants.{Open, Deliver, Report, Close, Figures}
 use Rattle.plays.specs.declared.Played.{Played}
 
 -- only a delivery hands bytes over

@@ -1,6 +1,7 @@
-// A call of the house as a value, and one function that plays it: document 01, "The house, its slots and its rows",
+// One function that plays a call of the house, a value: document 01, "The house, its slots and its rows",
 // Calls. What sits above a house by lines or files (the desk, a replay) makes such a value and says what comes back.
 use answers::Answer;
+use asked_calls::Call;
 use house::Answered;
 use house::Figures;
 use house::House;
@@ -11,15 +12,6 @@ ghost use mathlib.Core.Path.{_≡_};
 ghost use Rattle.house.specs.Report.{noRows};
 ghost use Rattle.house.specs.History.{Reply};
 ghost use Rattle.plays.specs.Plays.{asks, holds, listedAs, played};
-
-// The five calls. An enum holds no reference, so the bytes of a record are lent beside it.
-pub enum Call {
-    Open(u32, u32),
-    Deliver(u32),
-    Report(u32, usize),
-    Close(u32),
-    Figures,
-}
 
 // What a call is answered, and the house after it. Figures and rows are nothing where the call asks for none.
 pub struct Played {

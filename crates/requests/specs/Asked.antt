@@ -22,8 +22,8 @@ use Rattle.script.specs.declared.Wide.the-variants as wide
 use Rattle.script.specs.Words.{words, verbOf}
 use Rattle.script.specs.Decimals.{numberOf, wideOf}
 use Rattle.script.specs.Hex.{isHex, isNoBytes, bytesOf}
-use Rattle.plays.specs.declared.Call.{Call}
-use Rattle.plays.specs.declared.Call.the-variants as call
+use Rattle.asked_calls.specs.declared.Call.{Call}
+use Rattle.asked_calls.specs.declared.Call.the-variants as call
 use Rattle.requests.specs.declared.Way.{Way}
 use Rattle.requests.specs.declared.Way.the-variants as way
 use Rattle.requests.specs.declared.Asked.{Asked}

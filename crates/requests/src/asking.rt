@@ -1,7 +1,7 @@
 // What a verb asks for with its words: one function for each number of words.
 use crate::Asked;
 use crate::Way;
-use plays::Call;
+use asked_calls::Call;
 use script::Number;
 use script::Verb;
 use script::Wide;

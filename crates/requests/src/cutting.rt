@@ -5,7 +5,7 @@ use crate::asking::ask_alone;
 use crate::asking::ask_four;
 use crate::asking::ask_one;
 use crate::asking::ask_two;
-use plays::Call;
+use asked_calls::Call;
 use script::Verb;
 use script::unhex;
 use script::verb_of;

@@ -2,8 +2,8 @@
 mod asking;
 mod cutting;
 
+use asked_calls::Call;
 pub use cutting::read_request;
-use plays::Call;
 
 // Which way a count line's call goes: a record to its line, or a line to its record.
 pub enum Way {
