@@ -99,7 +99,7 @@ fn rows_rise<'a>(keys: &'a [u64; House::ROWS], counts: &'a [u64; House::ROWS], u
     if !rows::rows_fit(keys, counts, used) {
         return false;
     }
-    rising::rises_below(keys, used)
+    searching::rises_below(keys, used)
 }
 
 fn unsound() -> Soundness
