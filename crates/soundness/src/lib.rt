@@ -47,7 +47,7 @@ fn slot_sound<'a>(
     if !session::is_sound(session) {
         return false;
     }
-    rows::sum_is(keys, counts, used, i, ranged(st.results))
+    row_tests::sum_is(keys, counts, used, i, ranged(st.results))
 }
 
 // What the slots tell: whether each is sound, the rows promised, and which are open.
@@ -96,7 +96,7 @@ fn rows_rise<'a>(keys: &'a [u64; House::ROWS], counts: &'a [u64; House::ROWS], u
         ≡ (rowsFit (take used (now (keys .entry))) (take used (now (counts .entry)))
         && rising (take used (now (keys .entry)))) ⌝ }
 {
-    if !rows::rows_fit(keys, counts, used) {
+    if !row_tests::rows_fit(keys, counts, used) {
         return false;
     }
     searching::rises_below(keys, used)
@@ -134,7 +134,7 @@ pub fn soundness_lent<'a>(
         return unsound();
     }
     let taken = told.taken;
-    if !rows::rows_open(&taken, keys, used) {
+    if !row_tests::rows_open(&taken, keys, used) {
         return unsound();
     }
     let promised = told.promised;
