@@ -8,8 +8,8 @@ use house::House;
 use house::Listing;
 use house::Row;
 use reports::list_rows;
+use reports::no_rows;
 ghost use mathlib.Core.Path.{_≡_};
-ghost use Rattle.house.specs.Report.{noRows};
 ghost use Rattle.house.specs.History.{Reply};
 ghost use Rattle.plays.specs.Plays.{asks, holds, listedAs, played};
 
@@ -19,20 +19,8 @@ pub struct Played {
     pub free: u32,
     pub promised: u32,
     pub count: usize,
-    pub rows: [Row; 1024],
+    pub rows: [Row; House::ROWS],
     pub house: House,
-}
-
-fn no_rows() -> [Row; 1024]
-    ensures { λ r. ⌜ r ≡ noRows ⌝ }
-{
-    let row = Row {
-        head: 0,
-        site: 0,
-        bin: 0,
-        count: 0,
-    };
-    [row; 1024]
 }
 
 fn told(done: Answered) -> Played

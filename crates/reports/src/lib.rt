@@ -79,7 +79,8 @@ fn keyed_row(key: u64, count: u64) -> Row
     }
 }
 
-fn no_rows() -> [Row; House::ROWS]
+// Rows that say nothing: what stands where a report has laid none.
+pub fn no_rows() -> [Row; House::ROWS]
     ensures { λ r. ⌜ r ≡ noRows ⌝ }
 {
     let row = Row {
