@@ -41,6 +41,7 @@ use Rattle.session.specs.declared.Verdict.{Verdict}
 use Rattle.session.specs.declared.Verdict.the-variants.{Refused, Taken, Wanted}
 use Rattle.session.specs.Session.{mostOpen, partOf, keyOf, partsOf, isStart, begun, sound}
 use Rattle.session.specs.Verdicts.{stands, verdictNumber}
+use Rattle.session.proofs.Keys.{part-same}
 use Rattle.session.proofs.Laws.{sound-parts-told}
 use Rattle.settling.specs.Settling.{lentSession, changed}
 use Rattle.first_record.specs.First.{inOrder, judgeFirst, orderIn}
@@ -54,7 +55,6 @@ use Rattle.judging.proofs.Laws.{judged-first, judged-later, parts-opened, parts
 use Rattle.house.proofs.Counting.{holds}
 use Rattle.tallies.specs.Results.{PartResult}
 use Rattle.tallies.specs.Packed.{keyed, RightResult, AllRight}
-use Rattle.tallies.proofs.Keys.{part-same}
 use Rattle.books.specs.Book.{Part, isOpen, Book, book, kindIn, saidIn, asResult, resultsIn}
 use Rattle.books.specs.Book.{partsAfter, isPcr, noted}
 use Rattle.books.specs.Told.{recordChecks}

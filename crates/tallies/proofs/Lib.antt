@@ -1,4 +1,3 @@
-pub mod Keys
 pub mod Order
 pub mod Tally
 pub mod Once

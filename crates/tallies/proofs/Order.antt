@@ -11,7 +11,7 @@ use native.Mathlib.Omega.{arith}
 use borrow.Author.Tests.{eqb-true, lt-ltb, le-ltb, eq-eqb, ne-eqb}
 use lib.Dec.{eqb}
 use Rattle.prelude.proofs.Both.{both-left, both-right}
-use Rattle.tallies.proofs.Keys.{three-ways}
+use Rattle.session.proofs.Keys.{three-ways}
 use Rattle.house.specs.declared.Row.{Row}
 use Rattle.tallies.specs.Results.{PartResult, same, below, resultIn, beforeAll}
 

@@ -12,16 +12,16 @@ use lib.ListN.{length}
 use Rattle.prelude.specs.Each.{each}
 use Rattle.prelude.proofs.Both.{both-left, both-right}
 use Rattle.session.specs.Session.{keyOf}
-use Rattle.tallies.proofs.Keys.{key-same, key-rises}
+use Rattle.session.proofs.Keys.{key-same, key-rises}
 use Rattle.rows.specs.Rows.{slotSpan, headOf, siteOf, binOf}
 use Rattle.rows.specs.Counts.{Count, count, plus, has}
 use Rattle.rows.proofs.Laws.{same-or}
-use Rattle.tallies.proofs.Keys.{plus-has}
+use Rattle.rows.proofs.Counts.{plus-has}
 use Rattle.house.specs.declared.Row.{Row}
 use Rattle.house.specs.Tally.{rowOf}
 use Rattle.tallies.specs.Results.{PartResult, same, below, resultIn, row, counting, among, tallyOf}
 use Rattle.tallies.specs.Packed.{keyed, RightResult, AllRight, packed, partsIn}
-use Rattle.tallies.specs.Laws.{TallyPacked, HasAmong, PackedSum}
+use Rattle.tallies.specs.Laws.{KeyGives, TallyPacked, HasAmong, PackedSum}
 
 -- ---- a number and its head, site and bin
 
@@ -29,16 +29,17 @@ use Rattle.tallies.specs.Laws.{TallyPacked, HasAmong, PackedSum}
 key-whole : (k : ℕ) → k < slotSpan → keyOf (headOf k) (siteOf k) (binOf k) ≡ k
 key-whole k h = omega arith
 
+-- .. and gives them back
+pub key-gives : KeyGives
+key-gives r n right =
+    let head : headOf (keyed r) ≡ r .head = omega (arith, right .head, right .site, right .bin) in
+    let site : siteOf (keyed r) ≡ r .site = omega (arith, right .site, right .bin) in
+    let bin : binOf (keyed r) ≡ r .bin = omega (arith, right .bin) in
+    rw (head, site, bin)
+
 module _ (r : PartResult) (right : RightResult r) where
-  -- .. and gives them back
   row-own : (n : ℕ) → row r n ≡ rowOf (count (keyed r) n)
-  row-own n =
-      let head : r .head ≡ headOf (keyed r) = omega (arith, right .head, right .site, right .bin) in
-      let site : r .site ≡ siteOf (keyed r) = omega (arith, right .head, right .site, right .bin) in
-      let bin : r .bin ≡ binOf (keyed r) = omega (arith, right .head, right .site, right .bin) in
-      ap (λ (x : ℕ). row (record { head = x; site = r .site; bin = r .bin }) n) head
-      ∙ ap (λ (x : ℕ). row (record { head = headOf (keyed r); site = x; bin = r .bin }) n) site
-      ∙ ap (λ (x : ℕ). row (record { head = headOf (keyed r); site = siteOf (keyed r); bin = x }) n) bin
+  row-own n = sym (key-gives r n right)
 
   key-below : keyed r < slotSpan
   key-below = omega (arith, right .head, right .site, right .bin)

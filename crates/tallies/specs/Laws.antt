@@ -8,10 +8,10 @@ use mathlib.Core.List.{List, map}
 use Prim.Native.Nat.{ℕ}
 use lib.Dec.{eqb, ltb}
 use lib.ListN.{length}
-use Rattle.rows.specs.Counts.{has}
+use Rattle.rows.specs.Counts.{count, has}
 use Rattle.house.specs.declared.Row.{Row}
 use Rattle.house.specs.Tally.{rowOf}
-use Rattle.tallies.specs.Results.{PartResult, countOf, among, tallyOf, hasRow, rises}
+use Rattle.tallies.specs.Results.{PartResult, countOf, among, row, tallyOf, hasRow, rises}
 use Rattle.tallies.specs.Packed.{keyed, RightResult, AllRight, packed, partsIn}
 
 -- ---- the tally
@@ -32,6 +32,10 @@ TallyOnce = (rs : List PartResult) (ws : List Row) → rises ws ≡ true
     → ws ≡ tallyOf rs
 
 -- ---- and the rows of a house
+
+-- a result's number gives back its head, site and bin
+abbrev pub KeyGives : Type 0
+KeyGives = (r : PartResult) (n : ℕ) → RightResult r → rowOf (count (keyed r) n) ≡ row r n
 
 -- a slot's rows say the tally
 abbrev pub TallyPacked : Type 0

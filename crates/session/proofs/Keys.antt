@@ -1,36 +1,16 @@
 -- The statements of specs/Laws.antt on parts and keys, proved: of two numbers that are made of a high one and a low one,
 -- the low ones below a span, and then of two such in one.
 -- Assumes nothing.
-use mathlib.Core.Path.{_≡_, refl, sym, _∙_}
-use mathlib.Core.Bool.{Bool, true, false, _&&_, _||_, and-assoc, or-true}
-use mathlib.Core.List.{List, [], _∷_}
-use Rattle.rows.specs.Counts.{Count, plus, has}
-use Rattle.rows.proofs.Laws.{same-or}
+use mathlib.Core.Path.{_≡_, refl, _∙_}
+use mathlib.Core.Bool.{Bool, true, false, _&&_, _||_, and-assoc}
 use Prim.Native.Nat.{ℕ, _+_, _*_, _≤_, _<_}
 use native.Mathlib.Nat.{mul-le-mul-right}
 use native.Mathlib.Omega.{arith}
 use borrow.Author.Tests.{lt-ltb, le-ltb, eq-eqb, ne-eqb}
 use lib.Dec.{eqb, ltb}
 use Rattle.rising.proofs.Laws.{side}
-use Rattle.session.specs.Session.{partOf, keyOf}
-
--- ---- a part and a key as numbers: a site is one byte and a bin is two
-
--- two parts are one number exactly if head and site are the same
-abbrev pub PartSame : Type 0
-PartSame = (head site head′ site′ : ℕ) → site < 256 → site′ < 256
-    → eqb (partOf head site) (partOf head′ site′) ≡ (eqb head head′ && eqb site site′)
-
--- .. and two keys exactly if the bin is too
-abbrev pub KeySame : Type 0
-KeySame = (head site bin head′ site′ bin′ : ℕ) → site < 256 → site′ < 256 → bin < 65_536 → bin′ < 65_536
-    → eqb (keyOf head site bin) (keyOf head′ site′ bin′) ≡ (eqb head head′ && (eqb site site′ && eqb bin bin′))
-
--- keys rise as head, then site, then bin do
-abbrev pub KeyRises : Type 0
-KeyRises = (head site bin head′ site′ bin′ : ℕ) → site < 256 → site′ < 256 → bin < 65_536 → bin′ < 65_536
-    → ltb (keyOf head site bin) (keyOf head′ site′ bin′)
-    ≡ (ltb head head′ || (eqb head head′ && (ltb site site′ || (eqb site site′ && ltb bin bin′))))
+use Rattle.session.specs.Session.{partOf}
+use Rattle.session.specs.Laws.{PartSame, KeySame, KeyRises}
 
 -- of two numbers one is below the other, or they are the same
 pub three-ways : {C : Type 0} (a b : ℕ) → (a < b → C) → (a ≡ b → C) → (b < a → C) → C
@@ -92,24 +72,3 @@ key-rises head site bin head′ site′ bin′ s s′ b b′ =
     regrouped true e s f b = refl
     regrouped false true s f b = refl
     regrouped false false s f b = refl
-
-pub plus-has : (j key : ℕ) (cs : List Count) → has j (plus key cs) ≡ (eqb key j || has j cs)
-unfolding plus has
-plus-has j key [] = refl
-plus-has j key (c ∷ cs) =
-    side key (c .key)
-    (λ (l : key < c .key). rw (lt-ltb key (c .key) l))
-    (λ (l : c .key ≤ key).
-    same-or key (c .key)
-    (λ (q : key ≡ c .key). rw (le-ltb key (c .key) l, eq-eqb key (c .key) q, q) (twice (eqb (c .key) j)))
-    (λ (q : key ≡ c .key → ⊥).
-    rw (le-ltb key (c .key) l, ne-eqb key (c .key) q, plus-has j key cs)
-    (swapped (eqb (c .key) j) (eqb key j))))
-  where
-    twice : (t : Bool) → (t || has j cs) ≡ (t || (t || has j cs))
-    twice true = refl
-    twice false = refl
-
-    swapped : (t u : Bool) → (t || (u || has j cs)) ≡ (u || (t || has j cs))
-    swapped true u = sym (or-true u)
-    swapped false u = refl
