@@ -27,7 +27,7 @@ use Rattle.order.specs.declared.Step.the-variants.{To}
 use Rattle.order.specs.Order.{goes}
 use Rattle.order.specs.Laws.{before}
 use Rattle.order.proofs.Laws.{never-back, never-start}
-use Rattle.rising.specs.Rising.{rank, held, insertAt, removeAt}
+use Rattle.rising.specs.Rising.{rank, held, inserted, removed, insertAt, removeAt}
 use Rattle.rising.proofs.Laws.{rank-within, held-rank, rising-insert, rising-remove, below-insert, below-remove}
 use Rattle.rising.proofs.Laws.{insert-taken, insert-length, remove-taken, remove-length}
 use Rattle.session.specs.declared.Session.{Session}
@@ -122,7 +122,7 @@ judged-few s rec low =
 
 -- ---- the key of a row that is asked for
 
-body-bytes : (rec : List ℕ) → Bytes rec → Bytes (body rec)
+pub body-bytes : (rec : List ℕ) → Bytes rec → Bytes (body rec)
 body-bytes rec h k = rw (getD-drop 4 rec k 0) (h (4 + k))
 
 pub judged-key : JudgedKey
@@ -169,19 +169,34 @@ module _ (s : Session) (long : length (s .parts) ≡ mostOpen) (e : sound s ≡ 
   right : partsRight (st .opened) (s .parts) ≡ true
   right = parts-right (st .opened) (s .parts) (sound-parts-told s e)
 
+  -- the open parts after one more, and after one less
+  pub parts-opened : (part : ℕ) → st .opened < mostOpen
+      → take (st .opened + 1) (insertAt (s .parts) (st .opened) (rank part (partsOf s)) part)
+      ≡ inserted (partsOf s) (rank part (partsOf s)) part
+  parts-opened part few =
+      rw (add-one (st .opened))
+      (insert-taken (s .parts) (st .opened) (rank part (partsOf s)) part
+      (omega (arith, rank-within part (partsOf s), opened-long s long e)) (omega arith))
+
+  pub parts-closed : (part : ℕ) → held part (partsOf s) ≡ true
+      → take (st .opened - 1) (removeAt (s .parts) (st .opened) (rank part (partsOf s)) 1)
+      ≡ removed (partsOf s) (rank part (partsOf s)) 1
+  parts-closed part there =
+      let p = sound-parts-told s e in
+      let inside = held-rank part (partsOf s) (p .rises) there .0 in
+      remove-taken (s .parts) (st .opened) (rank part (partsOf s)) 1 (omega (arith, inside, opened-long s long e))
+      (omega (arith, p .few))
+
   opened-right : (part : ℕ) → part < pastParts → held part (partsOf s) ≡ false → st .opened < mostOpen
       → partsRight (st .opened + 1) (insertAt (s .parts) (st .opened) (rank part (partsOf s)) part) ≡ true
   opened-right part low new few =
       let p = sound-parts-told s e in
       let at = rank part (partsOf s) in
-      let within : at ≤ st .opened = omega (arith, rank-within part (partsOf s), opened-long s long e) in
-      let now = insert-taken (s .parts) (st .opened) at part within (omega arith) in
-      let cells = insertAt (s .parts) (st .opened) at part in
-      parts-right (st .opened + 1) cells
+      parts-right (st .opened + 1) (insertAt (s .parts) (st .opened) at part)
       (record {
         few = omega arith;
-        rises = rw (add-one (st .opened), now) (rising-insert part (partsOf s) (p .rises) new);
-        below = rw (add-one (st .opened), now) (below-insert pastParts (partsOf s) at part (p .below) low);
+        rises = rw (parts-opened part few) (rising-insert part (partsOf s) (p .rises) new);
+        below = rw (parts-opened part few) (below-insert pastParts (partsOf s) at part (p .below) low);
       })
 
   closed-right : (part : ℕ) → held part (partsOf s) ≡ true
@@ -189,14 +204,11 @@ module _ (s : Session) (long : length (s .parts) ≡ mostOpen) (e : sound s ≡ 
   closed-right part there =
       let p = sound-parts-told s e in
       let at = rank part (partsOf s) in
-      let inside = held-rank part (partsOf s) (p .rises) there .0 in
-      let within : at + 1 ≤ st .opened = omega (arith, inside, opened-long s long e) in
-      let now = remove-taken (s .parts) (st .opened) at 1 within (omega (arith, p .few)) in
       parts-right (st .opened - 1) (removeAt (s .parts) (st .opened) at 1)
       (record {
         few = omega (arith, p .few);
-        rises = rw now (rising-remove (partsOf s) at 1 (p .rises));
-        below = rw now (below-remove pastParts (partsOf s) at 1 (p .below));
+        rises = rw (parts-closed part there) (rising-remove (partsOf s) at 1 (p .rises));
+        below = rw (parts-closed part there) (below-remove pastParts (partsOf s) at 1 (p .below));
       })
 
 pub judged-sound : JudgedSound

@@ -1,0 +1,5 @@
+pub mod Parts
+pub mod Following
+pub mod Booked
+pub mod Told
+pub mod Rooms

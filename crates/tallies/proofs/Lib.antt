@@ -1,0 +1,5 @@
+pub mod Keys
+pub mod Order
+pub mod Tally
+pub mod Once
+pub mod Packed
