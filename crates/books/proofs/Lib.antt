@@ -3,3 +3,5 @@ pub mod Following
 pub mod Booked
 pub mod Told
 pub mod Rooms
+pub mod Meaning
+pub mod Spelling
