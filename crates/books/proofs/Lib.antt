@@ -4,4 +4,6 @@ pub mod Booked
 pub mod Told
 pub mod Rooms
 pub mod Meaning
+pub mod Accepting
 pub mod Spelling
+pub mod Right

@@ -2,18 +2,17 @@
 -- accepted as far as its places go (specs/Meaning.antt, KindsSpell and SpellsOn), proved: by DeliverTold a record is
 -- accepted only in its place, and 8 is given only out of it.
 -- Assumes nothing.
-use mathlib.Core.Path.{_≡_, refl, ap, sym, subst, _∙_}
+use mathlib.Core.Path.{_≡_, refl, ap, sym, _∙_}
 use mathlib.Core.Bool.{Bool, true, false, cond, not, _&&_, _||_, false≢true}
-use mathlib.Core.List.{List, [], _∷_, _++_, map, reverse-cons, append-assoc, append-nil}
+use mathlib.Core.List.{List, [], _∷_, _++_, map, reverse-cons}
 use Prim.Native.Nat.{ℕ}
 use native.Mathlib.Omega.{arith}
-use borrow.Author.Tests.{eqb-true, eq-eqb}
+use borrow.Author.Tests.{eq-eqb}
 use lib.Dec.{eqb, leb, ltb}
 use lib.ListN.{length}
 use Rattle.prelude.specs.Checks.{Check, _else_, numberBy}
 use Rattle.prelude.specs.Each.{each}
 use Rattle.prelude.proofs.Both.{both-left, both-right}
-use Rattle.answers.specs.Numbers.{numberOf}
 use Rattle.numbers.specs.Laws.{Bytes}
 use Rattle.kinds.specs.Kinds.{known}
 use Rattle.frames.specs.Frames.{header, recTyp, recSub, body, isRecord}
@@ -31,16 +30,15 @@ use Rattle.first_record.specs.Laws.{firstChecks}
 use Rattle.first_record.proofs.Accepted.{first-in-place}
 use Rattle.later_records.specs.Laws.{ownChecks, laterChecks}
 use Rattle.rows.specs.Rows.{slotCount}
-use Rattle.house.specs.declared.House.{House}
 use Rattle.house.specs.House.{fresh}
-use Rattle.house.specs.History.{Call, Open, Deliver, Report, Close, Figured, Said, said as exchange, answerOf, reply}
-use Rattle.house.specs.History.{after, reached, history, names, Sent, AllSent}
+use Rattle.house.specs.History.{Call, Deliver, history, AllSent}
 use Rattle.house.proofs.Counting.{holds}
-use Rattle.books.specs.Book.{isOpen, Book, kindIn, isDone, bookOf}
+use Rattle.books.specs.Book.{isOpen, Book, kindIn, bookOf}
 use Rattle.books.specs.Told.{numberTold, recordChecks, roomTo}
-use Rattle.books.specs.Meaning.{takenBy, taken, acceptedFrom, accepted, kindsOf, KindsSpell, SpellsOn}
+use Rattle.books.specs.Meaning.{accepted, kindsOf, KindsSpell, SpellsOn}
 use Rattle.books.proofs.Told.{deliver-told}
 use Rattle.books.proofs.Meaning.{place-means}
+use Rattle.books.proofs.Accepting.{done-checks, by-accepted}
 
 -- ---- 8, and the place of a record
 
@@ -120,24 +118,6 @@ module _ (b : Book) (rec : List ℕ) (room : Bool) where
           (own-spare (isOpen (b .parts)) (length (b .parts)) (length (b .results)) (b .pcr) room
           (saidOf (readBody (b .order) (kindIn rec) (body rec))))
 
-module _ (calls : List Call) (slot : ℕ) (rec : List ℕ) (sent : AllSent calls) (bytes : Bytes rec) where
-  abbrev now : Book
-  now = bookOf slot (history fresh calls)
-
-  done-placed : numberTold calls (Deliver slot rec) ≡ 0 → inPlace (goes (now .place) (kindIn rec)) ≡ true
-  done-placed done =
-      let inside = holds (ltb slot slotCount) _ 0 (sym (deliver-told calls slot rec sent bytes) ∙ done) in
-      let opened = holds (now .opened) _ 1 (inside .1) in
-      checks-placed now rec (roomTo (history fresh calls) now rec) (opened .1)
-
-  placed-spared : inPlace (goes (now .place) (kindIn rec)) ≡ true → numberTold calls (Deliver slot rec) ≡ 8 → ⊥
-  placed-spared is given =
-      let room = roomTo (history fresh calls) now rec in
-      never-given 8
-      ((ltb slot slotCount else 1) ∷ (now .opened else 2) ∷ (recordChecks now rec ++ ((room else 13) ∷ [])))
-      (λ z. omega arith) (checks-spare now rec room is)
-      (sym (deliver-told calls slot rec sent bytes) ∙ given)
-
 -- ---- one record more
 
 walks-step : (rec : List ℕ) (recs : List (List ℕ))
@@ -146,84 +126,34 @@ walks-step : (rec : List ℕ) (recs : List (List ℕ))
 walks-step rec recs =
     ap (walks Start) (reverse-cons (kindIn rec) (map kindIn recs)) ∙ walks-on Start (kindsOf recs) (kindIn rec)
 
--- ---- one call more
-
-history-on : (h : House) (calls : List Call) (c : Call)
-    → history h (calls ++ c ∷ []) ≡ history h calls ++ exchange c (reply (reached h calls) c) ∷ []
-history-on h [] c = refl
-history-on h (d ∷ calls) c = ap (λ (es : List Said). exchange d (reply h d) ∷ es) (history-on (after h d) calls c)
-
-accepted-on : (slot : ℕ) (es : List Said) (e : Said) (recs : List (List ℕ))
-    → acceptedFrom slot (es ++ e ∷ []) recs ≡ taken slot e (acceptedFrom slot es recs)
-accepted-on slot [] e recs = refl
-accepted-on slot (d ∷ es) e recs = accepted-on slot es e (taken slot d recs)
-
-abbrev Walked : ℕ → List Call → Type 0
-Walked slot calls = walks Start (kindsOf (accepted slot (history fresh calls))) ≡ true
-
-walked-done : (slot : ℕ) (calls : List Call) (c : Call) → AllSent calls → Sent c → Walked slot calls
-    → names slot c ≡ true → numberTold calls c ≡ 0
-    → walks Start (kindsOf (takenBy c (accepted slot (history fresh calls)))) ≡ true
-walked-done slot calls (Open i floor) sent bytes w own done = refl
-walked-done slot calls (Deliver i rec) sent bytes w own done =
-    let same = eqb-true i slot own in
-    let here = done-placed calls slot rec sent bytes (rw same at done) in
-    let next = rw (place-means slot (history fresh calls)) at here in
-    walks-step rec (accepted slot (history fresh calls)) ∙ rw (w, next)
-walked-done slot calls (Report i long) sent bytes w own done = w
-walked-done slot calls (Close i) sent bytes w own done = refl
-walked-done slot calls Figured sent bytes w own done = w
-
-walked-on : (slot : ℕ) (calls : List Call) (c : Call) → AllSent calls → Sent c → Walked slot calls
-    → Walked slot (calls ++ c ∷ [])
-walked-on slot calls c sent bytes w =
-    ap (λ (recs : List (List ℕ)). walks Start (kindsOf recs))
-    (ap (accepted slot) (history-on fresh calls c) ∙ accepted-on slot (history fresh calls) e [])
-    ∙ go (names slot c && isDone e) refl
+walked : (calls : List Call) (slot : ℕ) → AllSent calls
+    → walks Start (kindsOf (accepted slot (history fresh calls))) ≡ true
+walked calls slot = by-accepted (λ (recs : List (List ℕ)). walks Start (kindsOf recs) ≡ true) slot refl one calls
   where
-    e : Said
-    e = exchange c (reply (reached fresh calls) c)
-
-    go : (t : Bool) → (names slot c && isDone e) ≡ t
-        → walks Start (kindsOf (cond t (takenBy c (accepted slot (history fresh calls)))
-        (accepted slot (history fresh calls)))) ≡ true
-    go false is = w
-    go true is =
-        walked-done slot calls c sent bytes w (both-left (names slot c) (isDone e) is)
-        (eqb-true (numberTold calls c) 0 (both-right (names slot c) (isDone e) is))
-
--- ---- all calls
-
-sent-first : (past rest : List Call) → AllSent (past ++ rest) → AllSent past
-sent-first [] rest sent = tt
-sent-first (c ∷ past) rest sent = (sent .0, sent-first past rest (sent .1))
-
-sent-next : (past rest : List Call) (c : Call) → AllSent (past ++ c ∷ rest) → Sent c
-sent-next [] rest c sent = sent .0
-sent-next (d ∷ past) rest c sent = sent-next past rest c (sent .1)
-
-walked-run : (slot : ℕ) (past rest : List Call) → AllSent (past ++ rest) → Walked slot past
-    → Walked slot (past ++ rest)
-walked-run slot past [] sent w = subst (Walked slot) (sym (append-nil past)) w
-walked-run slot past (c ∷ rest) sent w =
-    let one : (past ++ c ∷ []) ++ rest ≡ past ++ c ∷ rest = append-assoc past (c ∷ []) rest in
-    subst (Walked slot) one
-    (walked-run slot (past ++ c ∷ []) rest (subst AllSent (sym one) sent)
-    (walked-on slot past c (sent-first past (c ∷ rest) sent) (sent-next past rest c sent) w))
-
-walked : (slot : ℕ) (calls : List Call) → AllSent calls → Walked slot calls
-walked slot calls sent = walked-run slot [] calls sent refl
+    one : (calls : List Call) (rec : List ℕ) → AllSent calls → Bytes rec → numberTold calls (Deliver slot rec) ≡ 0
+        → walks Start (kindsOf (accepted slot (history fresh calls))) ≡ true
+        → walks Start (kindsOf (rec ∷ accepted slot (history fresh calls))) ≡ true
+    one calls rec sent bytes done w =
+        let es = history fresh calls in
+        let b = bookOf slot es in
+        let here = checks-placed b rec (roomTo es b rec) (done-checks calls slot rec sent bytes done) in
+        walks-step rec (accepted slot es) ∙ rw (w, rw (place-means slot es) at here)
 
 pub kinds-spell : KindsSpell
 kinds-spell calls slot sent =
     let ks = kindsOf (accepted slot (history fresh calls)) in
-    let spelt = spelled ks ∙ walked slot calls sent in
+    let spelt = spelled ks ∙ walked calls slot sent in
     (spelt, ap ended (place-means slot (history fresh calls)) ∙ spelled-ends ks spelt)
 
 pub spells-on : SpellsOn
-spells-on calls slot rec sent bytes spelt =
-    let recs = accepted slot (history fresh calls) in
-    let ks = kindsOf recs in
+spells-on calls slot rec sent bytes spelt given =
+    let es = history fresh calls in
+    let b = bookOf slot es in
+    let room = roomTo es b rec in
+    let recs = accepted slot es in
     let both = sym (walks-step rec recs) ∙ sym (spelled (kindsOf (rec ∷ recs))) ∙ spelt in
-    let next = both-right (walks Start ks) (inPlace (goes (led Start ks) (kindIn rec))) both in
-    placed-spared calls slot rec sent bytes (rw (place-means slot (history fresh calls)) next)
+    let next = both-right (walks Start (kindsOf recs)) (inPlace (goes (led Start (kindsOf recs)) (kindIn rec))) both in
+    never-given 8
+    ((ltb slot slotCount else 1) ∷ (b .opened else 2) ∷ (recordChecks b rec ++ ((room else 13) ∷ [])))
+    (λ z. omega arith) (checks-spare b rec room (rw (place-means slot es) next))
+    (sym (deliver-told calls slot rec sent bytes) ∙ given)

@@ -1,6 +1,7 @@
 -- What the book of a slot means, said of the records that were accepted: of their kinds, and of what their bytes say.
 -- Document 01, "Order of a stream" and "Record frame and kinds". Definitions and statements; each is proved in
--- proofs/Meaning.antt or, over calls from a fresh house, in proofs/Spelling.antt, under its name in small letters.
+-- proofs/Meaning.antt or, over calls from a fresh house, in proofs/Spelling.antt and proofs/Right.antt, under its name
+-- in small letters.
 --
 --   accepted    the records of a slot that were accepted since its opening, the last first
 --   kindsOf     their kinds, the first first
@@ -18,15 +19,18 @@ use Rattle.numbers.specs.declared.Order.{Order}
 use Rattle.numbers.specs.declared.Order.the-variants.{HighFirst}
 use Rattle.numbers.specs.Laws.{Bytes}
 use Rattle.kinds.specs.declared.Kind.{Kind}
-use Rattle.kinds.specs.declared.Kind.the-variants.{Mrr}
-use Rattle.frames.specs.Frames.{body}
+use Rattle.kinds.specs.declared.Kind.the-variants.{Far, Atr, Mir, Mrr, Pcr, Hbr, Sbr, Rdr, Sdr, Pir, Prr, Remaining}
+use Rattle.kinds.specs.declared.Kind.the-variants.{Custom, Unknown}
+use Rattle.kinds.specs.Kinds.{known}
+use Rattle.frames.specs.Frames.{body, isRecord}
 use Rattle.bodies.specs.declared.Record.{Record}
 use Rattle.bodies.specs.declared.Record.the-variants as said
-use Rattle.bodies.specs.Bodies.{readBody, saidOf}
+use Rattle.bodies.specs.Bodies.{readBody, fitting, saidOf}
 use Rattle.order.specs.declared.Place.the-variants.{Start}
 use Rattle.order.specs.Laws.{ended}
 use Rattle.order.specs.Spelled.{is, spells, endsWith, led}
 use Rattle.first_record.specs.First.{orderIn}
+use Rattle.first_record.specs.Laws.{FirstRight}
 use Rattle.house.specs.House.{fresh}
 use Rattle.house.specs.History.{Call, Open, Deliver, Report, Close, Figured, Said, names, history, AllSent}
 use Rattle.tallies.specs.Results.{PartResult}
@@ -132,8 +136,49 @@ KindsSpell = (calls : List Call) (slot : ℕ) → AllSent calls
     (spells (kindsOf (accepted slot es)) ≡ true)
     × (ended (bookOf slot es .place) ≡ endsWith (is Mrr) (kindsOf (accepted slot es)))
 
--- .. and each such order is accepted as far as its places go: where one more kind spells on, the answer is not 8
+-- each such order is accepted as far as its places go: where one more kind spells on, the answer is not 8
 abbrev pub SpellsOn : Type 0
 SpellsOn = (calls : List Call) (slot : ℕ) (rec : List ℕ) → AllSent calls → Bytes rec
     → spells (kindsOf (rec ∷ accepted slot (history fresh calls))) ≡ true
     → numberTold calls (Deliver slot rec) ≡ 8 → ⊥
+
+-- every accepted record is exactly one record and its body fits, in the byte order that the first of them told; the first
+-- is a FAR, and each later one of a known kind
+pub record LaterRight (order : Order) (rec : List ℕ) : Type 0 where
+  pub one : isRecord order rec ≡ true
+  pub named : known (kindIn rec) ≡ true
+  pub fits : fitting (readBody order (kindIn rec) (body rec)) ≡ true
+
+abbrev pub EachRight : List (List ℕ) → Type 0
+EachRight [] = Unit
+EachRight (rec ∷ []) = FirstRight rec
+EachRight (rec ∷ before ∷ recs) = LaterRight (toldOrder (before ∷ recs)) rec × EachRight (before ∷ recs)
+
+abbrev pub AcceptedRight : Type 0
+AcceptedRight = (calls : List Call) (slot : ℕ) → AllSent calls → EachRight (accepted slot (history fresh calls))
+
+-- so by their kinds alone: a PCR was accepted exactly if one of them is of that kind
+abbrev pub pcrKind : Kind → Bool
+pcrKind Pcr = true
+pcrKind Far = false
+pcrKind Atr = false
+pcrKind Mir = false
+pcrKind Mrr = false
+pcrKind Hbr = false
+pcrKind Sbr = false
+pcrKind Rdr = false
+pcrKind Sdr = false
+pcrKind Pir = false
+pcrKind Prr = false
+pcrKind (Remaining k) = false
+pcrKind Custom = false
+pcrKind Unknown = false
+
+abbrev pub someKind : (Kind → Bool) → List (List ℕ) → Bool
+someKind test [] = false
+someKind test (rec ∷ recs) = test (kindIn rec) || someKind test recs
+
+abbrev pub PcrStands : Type 0
+PcrStands = (calls : List Call) (slot : ℕ) → AllSent calls
+    → let es = history fresh calls in
+    bookOf slot es .pcr ≡ someKind pcrKind (accepted slot es)
