@@ -1,7 +1,7 @@
 -- A book and a house: what calls and their answers tell of a slot is what the house holds of it, call by call.
 -- Assumes nothing.
 use mathlib.Core.Path.{_≡_, refl, ap, ap₂, sym, subst, _∙_}
-use mathlib.Core.Bool.{Bool, true, false, not, false≢true, true≢false}
+use mathlib.Core.Bool.{Bool, true, false, cond, not, _&&_, false≢true, true≢false}
 use mathlib.Core.List.{List, [], _∷_, _++_}
 use Prim.Native.Nat.{ℕ, _-_, _<_}
 use native.Mathlib.Omega.{arith}
@@ -194,14 +194,13 @@ module _ (slot : ℕ) (b : Book) (h : House) (p : Agree slot b h) where
     agree-after c sent = go (names slot c) refl (isDone (said c (reply h c))) refl
       where
         go : (n : Bool) → names slot c ≡ n → (d : Bool) → isDone (said c (reply h c)) ≡ d
-            → Agree slot (heard slot (said c (reply h c)) b) (after h c)
-        go false other d is = rw other (agree-alike slot b h (after h c) (else-alike slot h c shape sent other) p)
+            → Agree slot (cond (n && d) (doneBy c b) b) (after h c)
+        go false other d is = agree-alike slot b h (after h c) (else-alike slot h c shape sent other) p
         go true own false is =
             let refused : answerOf (reply h c) ≡ Done → ⊥ =
             λ q. false≢true (sym is ∙ ap (λ (a : Answer). eqb (numberOf a) 0) q) in
-            rw (own, is, refused-keeps h c refused) p
-        go true own true is =
-            rw (own, is) (agree-done c sent own (eqb-true (numberOf (answerOf (reply h c))) 0 is))
+            subst (Agree slot b) (sym (refused-keeps h c refused)) p
+        go true own true is = agree-done c sent own (eqb-true (numberOf (answerOf (reply h c))) 0 is)
 
 -- ---- all calls
 

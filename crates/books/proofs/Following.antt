@@ -212,23 +212,34 @@ first-far rec e =
     ap₂ kindOf (eqb-true (recTyp rec) 0 (both-left typ sub far)) (eqb-true (recSub rec) 10 (both-right typ sub far))
     ∙ far-kind
 
--- a later one, of what it says and where it leads
-abbrev onward : Book → Place → Record → Book
-onward b place r =
+-- a record, of the byte order, of where it leads and of what it says
+abbrev entered : Book → Order → Place → Record → Book
+entered b order place r =
     record {
       opened = b .opened;
       floor = b .floor;
       place = place;
-      order = b .order;
+      order = order;
       parts = partsAfter r (b .parts);
       pcr = isPcr r || b .pcr;
       results = resultsIn r ++ b .results;
     }
 
+-- a later one goes on in its stream's order
+abbrev onward : Book → Place → Record → Book
+onward b place r = entered b (b .order) place r
+
 noted-later : (b : Book) (rec : List ℕ) (k : Kind) (q : Place) (r : Record) → isStart (b .place) ≡ false
     → kindIn rec ≡ k → goes (b .place) k ≡ To q → readBody (b .order) k (body rec) ≡ Fits r
     → (noted rec b ≡ onward b q r) × (saidIn b rec ≡ r)
-noted-later b rec k q r further named to fits = (rw (further, named, to, fits), rw (further, named, fits))
+noted-later b rec k q r further of-kind to fits =
+    let leads : placeAfter (goes (b .place) (kindIn rec)) ≡ q = rw (of-kind, to) in
+    let ordered : cond (isStart (b .place)) (orderIn rec) (b .order) ≡ b .order = rw further in
+    let reads : saidIn b rec ≡ r = rw (further, of-kind, fits) in (
+      ap (λ (o : Order). entered b o (placeAfter (goes (b .place) (kindIn rec))) (saidIn b rec)) ordered
+          ∙ ap₂ (onward b) leads reads,
+      reads,
+    )
 
 -- one that moves the place alone says nothing of parts and counts
 pub record Quiet (r : Record) : Type 0 where
@@ -259,7 +270,7 @@ module _ (b : Book) (s : Session) (p : Says b s) where
   says-first rec order start far is =
       rw start (
         record {
-          place = rw far (first-place (b .place) start);
+          place = ap (λ (k : Kind). placeAfter (goes (b .place) k)) far ∙ first-place (b .place) start;
           order = is;
           opened = p .opened;
           parts = p .parts;
