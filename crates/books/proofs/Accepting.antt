@@ -1,5 +1,5 @@
--- What holds of the accepted records of a slot, over calls from a fresh house, by induction: it is enough that it holds of
--- none, and is kept by a record that is accepted.
+-- What holds of the accepted records of a slot, over calls from a fresh house, by induction: it is enough that it holds
+-- of none, and is kept by a record that is accepted.
 -- Assumes nothing.
 use mathlib.Core.Path.{_≡_, refl, ap, sym, subst, _∙_}
 use mathlib.Core.Bool.{Bool, true, false, cond, _&&_}

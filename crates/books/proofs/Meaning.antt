@@ -1,5 +1,5 @@
--- What a book means, whatever was called and answered (specs/Meaning.antt), proved: one record more changes the book and
--- what is said of the records alike.
+-- What a book means, whatever was called and answered (specs/Meaning.antt), proved: one record more changes the book
+-- and what is said of the records alike.
 -- Assumes nothing.
 use mathlib.Core.Path.{_≡_, refl, ap, sym, _∙_}
 use mathlib.Core.Bool.{Bool, true, false, cond, not, _&&_, _||_}

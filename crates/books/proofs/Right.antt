@@ -1,5 +1,5 @@
--- Over calls from a fresh house every accepted record is right in itself, and so a PCR was accepted exactly if a record is
--- of that kind (specs/Meaning.antt, AcceptedRight and PcrStands), proved.
+-- Over calls from a fresh house every accepted record is right in itself, and so a PCR was accepted exactly if a record
+-- is of that kind (specs/Meaning.antt, AcceptedRight and PcrStands), proved.
 -- Assumes nothing.
 use mathlib.Core.Path.{_≡_, refl, ap, ap₂, subst, _∙_}
 use mathlib.Core.Bool.{Bool, true, false, cond, _||_, false≢true}

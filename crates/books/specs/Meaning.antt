@@ -9,6 +9,7 @@
 --   readings    what those behind the first say in that order, the last first
 --   lastOpens   whether the last of these that is about a part opened it; anyPcr, whether one is a PCR; resultsOf, the
 --               part results among them
+--   EachRight   that each of the accepted records is right in itself; someKind, whether the kind of one passes a test
 -- Assumes nothing.
 use mathlib.Core.Path.{_≡_}
 use mathlib.Core.Bool.{Bool, true, false, cond, _&&_, _||_}
@@ -142,8 +143,8 @@ SpellsOn = (calls : List Call) (slot : ℕ) (rec : List ℕ) → AllSent calls �
     → spells (kindsOf (rec ∷ accepted slot (history fresh calls))) ≡ true
     → numberTold calls (Deliver slot rec) ≡ 8 → ⊥
 
--- every accepted record is exactly one record and its body fits, in the byte order that the first of them told; the first
--- is a FAR, and each later one of a known kind
+-- every accepted record is exactly one record and its body fits, in the byte order that the first of them told; the
+-- first is a FAR, and each later one of a known kind
 pub record LaterRight (order : Order) (rec : List ℕ) : Type 0 where
   pub one : isRecord order rec ≡ true
   pub named : known (kindIn rec) ≡ true

@@ -1,5 +1,5 @@
--- The statements of specs/Laws.antt, proved. Where a row or a column of the table leads to no place that meets a test is
--- computed, step by step.
+-- The statements of specs/Laws.antt, proved. Where a row or a column of the table leads to no place that meets a test
+-- is computed, step by step.
 -- Assumes nothing.
 use mathlib.Core.Path.{_≡_, refl, ap, sym, _∙_}
 use mathlib.Core.Bool.{Bool, true, false, not, false≢true}

@@ -1,5 +1,5 @@
--- The sentence and the table agree (specs/Laws.antt, Spelled and SpelledEnds): at each place the table goes on as what is
--- left of the sentence. And how a walk over kinds goes on by one more.
+-- The sentence and the table agree (specs/Laws.antt, Spelled and SpelledEnds): at each place the table goes on as what
+-- is left of the sentence. And how a walk over kinds goes on by one more.
 -- Assumes nothing.
 use mathlib.Core.Path.{_≡_, refl, sym, ap, _∙_}
 use mathlib.Core.Bool.{Bool, true, false, _&&_, false≢true, and-true, and-assoc}

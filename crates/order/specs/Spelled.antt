@@ -1,5 +1,6 @@
--- The order of a stream, spelled out over the kinds of its records. Document 01, "Order of a stream", its first sentence.
--- The table of specs/Order.antt is not looked at: specs/Laws.antt says that the two agree (Spelled, SpelledEnds).
+-- The order of a stream, spelled out over the kinds of its records. Document 01, "Order of a stream", its first
+-- sentence. The table of specs/Order.antt is not looked at: specs/Laws.antt says that the two agree (Spelled,
+-- SpelledEnds).
 --
 --   wordOf                         which of the kinds that the sentence names a kind is; is, other: tests of that
 --   one, any, atMostOne, nothing   what may stand next, as the sentence counts it, and what behind it
