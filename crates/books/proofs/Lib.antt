@@ -3,3 +3,7 @@ pub mod Following
 pub mod Booked
 pub mod Told
 pub mod Rooms
+pub mod Meaning
+pub mod Accepting
+pub mod Spelling
+pub mod Right

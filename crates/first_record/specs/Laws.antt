@@ -1,6 +1,8 @@
--- What is shown of a first record: statements only, each proved in proofs/Checks.antt under its name in small letters.
+-- What is shown of a first record: statements only, each proved in proofs/Checks.antt, or in proofs/Accepted.antt those
+-- of an accepted one, under its name in small letters.
 --
 --   firstChecks   its order of checks, as a list
+--   FirstRight    what an accepted one is
 -- Assumes nothing.
 use mathlib.Core.Path.{_≡_}
 use mathlib.Core.Bool.{Bool, true, false, _&&_}
@@ -12,9 +14,13 @@ use Rattle.prelude.specs.Checks.{Check, _else_, numberBy}
 use Rattle.numbers.specs.declared.Ordering.{Ordering}
 use Rattle.numbers.specs.declared.Ordering.the-variants as ordering
 use Rattle.numbers.specs.Orders.{orderOf}
-use Rattle.frames.specs.Frames.{header, recLen, recTyp, recSub, body}
+use Rattle.kinds.specs.declared.Kind.the-variants.{Far}
+use Rattle.kinds.specs.Kinds.{kindOf}
+use Rattle.frames.specs.Frames.{header, recLen, recTyp, recSub, body, isRecord}
 use Rattle.fields.specs.Tables.{far}
-use Rattle.bodies.specs.Bodies.{byteOf}
+use Rattle.bodies.specs.Bodies.{byteOf, readBody, fitting}
+use Rattle.order.specs.declared.Place.the-variants.{Start}
+use Rattle.order.specs.Order.{goes, inPlace}
 use Rattle.session.specs.declared.Standing.{Standing}
 use Rattle.session.specs.Verdicts.{verdictNumber}
 use Rattle.first_record.specs.First.{judgeFirst, orderIn}
@@ -36,3 +42,18 @@ firstChecks rec =
 
 abbrev pub FirstNumber : Type 0
 FirstNumber = (st : Standing) (rec : List ℕ) → verdictNumber (judgeFirst st rec) ≡ numberBy (firstChecks rec)
+
+-- ---- an accepted first record
+
+-- exactly one record, in the byte order that it tells; a FAR; and its body fits
+pub record FirstRight (rec : List ℕ) : Type 0 where
+  pub one : isRecord (orderIn rec) rec ≡ true
+  pub far : kindOf (recTyp rec) (recSub rec) ≡ Far
+  pub fits : fitting (readBody (orderIn rec) Far (body rec)) ≡ true
+
+abbrev pub FirstAccepted : Type 0
+FirstAccepted = (st : Standing) (rec : List ℕ) → verdictNumber (judgeFirst st rec) ≡ 0 → FirstRight rec
+
+-- bytes 2 and 3 are 0 and 10 exactly if the kind that they name may begin a stream: 8 is for the same as later on
+abbrev pub FirstInPlace : Type 0
+FirstInPlace = (typ sub : ℕ) → inPlace (goes Start (kindOf typ sub)) ≡ (eqb typ 0 && eqb sub 10)
