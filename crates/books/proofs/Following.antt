@@ -6,18 +6,17 @@ use mathlib.Core.Bool.{Bool, true, false, cond, not, _&&_, _||_, false≢true}
 use mathlib.Core.List.{List, [], _∷_, _++_}
 use Prim.Native.Nat.{ℕ, _<_}
 use native.Mathlib.Omega.{arith}
-use borrow.Author.Tests.{eqb-true}
-use lib.Dec.{eqb, leb}
+use lib.Dec.{eqb}
 use lib.ListN.{length}
 use Rattle.prelude.specs.Checks.{Check, numberBy}
 use Rattle.prelude.specs.Each.{each}
-use Rattle.prelude.proofs.Both.{both-left, both-right}
 use Rattle.numbers.specs.declared.Order.{Order}
 use Rattle.numbers.specs.Laws.{Bytes}
+use Rattle.numbers.proofs.Laws.{bytes-drop}
 use Rattle.kinds.specs.declared.Kind.{Kind}
 use Rattle.kinds.specs.declared.Kind.the-variants as kind
-use Rattle.kinds.specs.Kinds.{kindOf, named}
-use Rattle.frames.specs.Frames.{header, recTyp, recSub, body}
+use Rattle.kinds.specs.Kinds.{named}
+use Rattle.frames.specs.Frames.{header, body}
 use Rattle.count_bodies.specs.declared.Pcr.{Pcr}
 use Rattle.part_bodies.specs.declared.Pir.{Pir}
 use Rattle.part_bodies.specs.declared.Prr.{Prr}
@@ -46,13 +45,13 @@ use Rattle.session.proofs.Laws.{sound-parts-told}
 use Rattle.settling.specs.Settling.{lentSession, changed}
 use Rattle.first_record.specs.First.{inOrder, judgeFirst, orderIn}
 use Rattle.first_record.specs.Laws.{firstChecks}
+use Rattle.first_record.proofs.Accepted.{first-accepted}
 use Rattle.first_record.proofs.Checks.{first-cases, first-number}
 use Rattle.later_records.specs.Later.{at, withPcr, opens, closes, judgeSaid, judgeLater}
 use Rattle.later_records.specs.Laws.{ownChecks, laterChecks}
 use Rattle.later_records.proofs.Checks.{quiet, later-cases, said-cases, later-number}
 use Rattle.judging.specs.Judge.{verdictOn}
-use Rattle.judging.proofs.Laws.{judged-first, judged-later, parts-opened, parts-closed, body-bytes}
-use Rattle.house.proofs.Counting.{holds}
+use Rattle.judging.proofs.Laws.{judged-first, judged-later, parts-opened, parts-closed}
 use Rattle.tallies.specs.Results.{PartResult}
 use Rattle.tallies.specs.Packed.{keyed, RightResult, AllRight}
 use Rattle.books.specs.Book.{Part, isOpen, Book, book, kindIn, saidIn, asResult, resultsIn}
@@ -112,7 +111,7 @@ module _ (f g : ℕ → ℕ → Bool) (alike : (head site : ℕ) → site < 256 
       ≡ numberBy (laterChecks order place g opened results pcr rec)
   later-alike order place rec bytes =
       rw (by (readBody order (kindIn rec) (body rec))
-      (λ r is. said-right order (kindIn rec) (body rec) r (body-bytes rec bytes) is))
+      (λ r is. said-right order (kindIn rec) (body rec) r (bytes-drop header rec bytes) is))
     where
       by : (reading : Reading) → ((r : Record) → reading ≡ Fits r → Right r)
           → numberBy (ownChecks f opened results pcr (saidOf reading))
@@ -198,19 +197,6 @@ first-place Lot e = absurd (false≢true e)
 first-place Setup e = absurd (false≢true e)
 first-place Body e = absurd (false≢true e)
 first-place Ended e = absurd (false≢true e)
-
-far-kind : kindOf 0 10 ≡ kind.Far
-unfolding kindOf named
-far-kind = refl
-
-first-far : (rec : List ℕ) → numberBy (firstChecks rec) ≡ 0 → kindIn rec ≡ kind.Far
-first-far rec e =
-    let typ = eqb (recTyp rec) 0 in
-    let sub = eqb (recSub rec) 10 in
-    let long = holds (leb header (length rec)) _ 2 e in
-    let far = holds (typ && sub) _ 7 (long .1) .0 in
-    ap₂ kindOf (eqb-true (recTyp rec) 0 (both-left typ sub far)) (eqb-true (recSub rec) 10 (both-right typ sub far))
-    ∙ far-kind
 
 -- a record, of the byte order, of where it leads and of what it says
 abbrev entered : Book → Order → Place → Record → Book
@@ -361,7 +347,7 @@ module _ (b : Book) (s : Session) (p : Says b s) where
     booked-first : isStart (b .place) ≡ true → Booked b s rec (judgeFirst st rec)
     booked-first start =
         first-cases First (λ a own far. tt) st rec (λ order is far. says-first rec order start (far refl) is)
-        (λ zero. first-far rec (sym (first-number st rec) ∙ zero))
+        (λ zero. first-accepted st rec zero .far)
       where
         First : Verdict → Type 0
         First v = (verdictNumber v ≡ 0 → kindIn rec ≡ kind.Far) → Booked b s rec v
@@ -398,7 +384,7 @@ module _ (b : Book) (s : Session) (p : Says b s) where
         let is = noted-later b rec k q r further named to-next reads in
         subst₂ (λ (c : Book) (x : Record). BookedAs s c x (judgeSaid (at st q) (partsOf s) r)) (sym (is .0))
         (sym (is .1))
-        (booked-said q r (said-right (st .order) k (body rec) r (body-bytes rec bytes) fits)))
+        (booked-said q r (said-right (st .order) k (body rec) r (bytes-drop header rec bytes) fits)))
 
     pub booked : Booked b s rec (verdictOn s rec)
     booked = go (isStart (b .place)) refl

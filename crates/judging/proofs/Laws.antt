@@ -2,20 +2,20 @@
 -- cases` and later_records' `said-cases` say so once, and each law is shown of the six.
 -- Assumes nothing.
 use mathlib.Core.Path.{_≡_, refl, ap, sym, subst, _∙_}
-use mathlib.Core.Bool.{Bool, true, false, cond, _&&_}
+use mathlib.Core.Bool.{Bool, true, false, cond}
 use mathlib.Core.List.{List}
 use Prim.Native.Nat.{ℕ, _+_, _-_, _≤_, _<_}
 use native.Mathlib.Numerals.{add-one}
 use native.Mathlib.Omega.{arith}
 use lib.ListN.{length, take}
-use lib.Seq.{getD-drop, length-take-le}
+use lib.Seq.{length-take-le}
 use Rattle.answers.specs.declared.Answer.{Answer}
 use Rattle.answers.specs.declared.Answer.the-variants as answer
 use Rattle.numbers.specs.declared.Order.{Order}
-use Rattle.numbers.specs.Laws.{Bytes}
+use Rattle.numbers.proofs.Laws.{bytes-drop}
 use Rattle.kinds.specs.declared.Kind.{Kind}
 use Rattle.kinds.specs.Kinds.{kindOf}
-use Rattle.frames.specs.Frames.{recTyp, recSub, body}
+use Rattle.frames.specs.Frames.{header, recTyp, recSub, body}
 use Rattle.bodies.specs.declared.Record.{Record}
 use Rattle.bodies.specs.declared.Record.the-variants as said
 use Rattle.bodies.specs.declared.Reading.the-variants.{Fits}
@@ -122,16 +122,13 @@ judged-few s rec low =
 
 -- ---- the key of a row that is asked for
 
-pub body-bytes : (rec : List ℕ) → Bytes rec → Bytes (body rec)
-body-bytes rec h k = rw (getD-drop 4 rec k 0) (h (4 + k))
-
 pub judged-key : JudgedKey
 judged-key s rec bytes =
     judge-cases KeyRight (λ a own. tt) (s .standing) (partsOf s) rec (λ order h is. tt)
     (λ k q r is h f.
     said-cases KeyRight (λ a own. tt) (at (s .standing) q) (partsOf s) r (λ t. tt) (λ p t. tt) (λ p t new few. tt)
     (λ p t there few.
-    let told = said-right (s .standing .order) k (body rec) r (body-bytes rec bytes) f in
+    let told = said-right (s .standing .order) k (body rec) r (bytes-drop header rec bytes) f in
     let right : Right (said.Prr p) = subst Right t told in
     (omega (arith, right .0, right .1, right .2), omega (arith, right .0, right .1, right .2)))
     (λ t done. tt))
@@ -223,7 +220,7 @@ judged-sound s rec bytes long e =
     let place = s .standing .place in
     let next = at (s .standing) q in
     let b = body rec in
-    let said-part : Right r = said-right order k b r (body-bytes rec bytes) fits in
+    let said-part : Right r = said-right order k b r (bytes-drop header rec bytes) fits in
     said-cases Sound (λ a own. e) next (partsOf s) r
     (λ quieted.
     sound-right (after s (Taken (stands next))) (right s long e)
