@@ -10,7 +10,7 @@ use borrow.Author.Tests.{eqb-true, eqb-false, ltb-true, ltb-false}
 use lib.Dec.{eqb, ltb}
 use lib.ListN.{length, getD, take, drop, set, replicate, length-append, length-take, length-drop}
 use lib.ListN.{List·getD-eq-default}
-use lib.Seq.{take-suc-set, getD-set-same, getD-set-other, getD-take, getD-drop}
+use lib.Seq.{take-all, take-suc-set, getD-set-same, getD-set-other, getD-take, getD-drop, ext-getD}
 use Rattle.line_layouts.specs.declared.Field.{Field}
 use Rattle.line_layouts.specs.Entries.{Entry, entryOf, noField, noFields, padded, Within}
 
@@ -74,6 +74,14 @@ module _ (A : Type 0) (none : A) (all : List A) (j : ℕ) where
       go false e =
           let other = eqb-false i j e in
           rw (add-one j, getD-set-other xs j i a none other) (so-far i ∙ later other (ltb i j) refl)
+
+-- fields stored one by one are all of them, and past them none
+pub stored-all : (all fs : List Field) (j : ℕ) → length all ≤ j → length all ≤ 7 → length fs ≡ 7
+    → ((i : ℕ) → getD fs i noField ≡ getD (take j all) i noField) → fs ≡ padded all
+stored-all all fs j done few seven so-far =
+    ext-getD noField fs (padded all) (seven ∙ sym (length-padded all few))
+    (λ (i : ℕ) inside. so-far i ∙ ap (λ (l : List Field). getD l i noField) (take-all j all done)
+    ∙ sym (padded-at all i))
 
 -- ---- what they say
 

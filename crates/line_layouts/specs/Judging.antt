@@ -4,6 +4,7 @@
 --   Judging, saidIn    the same with the bytes of the source: a meaning, or an answer
 --   heldBy             what this code holds of a meaning: the line that says it, or a refusal with nothing to say
 --   Taken              taken apart by this code: what it means, by bytes that are there
+--   Held               .. and the very line that says it, so that nothing is left open
 -- Assumes nothing.
 use mathlib.Core.Path.{_≡_}
 use mathlib.Core.List.{List}
@@ -43,3 +44,7 @@ saidIn source j = byFault (meaningOf source (j .line)) (j .fault)
 pub record Taken (s : List ℕ) (m : Judging) (j : Judged) : Type 0 where
   pub means : saidIn s j ≡ m
   pub there : j .fault ≡ None → AllWithin s (j .line)
+
+pub record Held (s : List ℕ) (line : Line) (m : Judging) (j : Judged) : Type 0 where
+  pub taken : Taken s m j
+  pub is : j ≡ heldBy line m

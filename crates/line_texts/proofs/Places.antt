@@ -6,7 +6,7 @@ use mathlib.Core.List.{List, [], _∷_, _++_, map}
 use Prim.Native.Nat.{ℕ, zero, suc, _+_, _≤_, _<_}
 use native.Mathlib.Omega.{arith}
 use lib.ListN.{length, getD, take, drop, length-append, length-drop, List·getD-map}
-use lib.Seq.{take-at, take-length, drop-drop, drop-append-add, take-all, ext-getD}
+use lib.Seq.{take-at, take-length, drop-drop, drop-append-add}
 use Rattle.prelude.specs.Each.{each}
 use Rattle.prelude.proofs.Both.{both-left, both-right}
 use Rattle.values.specs.declared.Name.{Name}
@@ -20,7 +20,7 @@ use Rattle.line_layouts.specs.Entries.{Entry, Meaning, named, entriesOf, meanin
 use Rattle.line_layouts.proofs.Arranging.{length-arranged, arranged-in, arranged-at, arranged-same, map-arranged}
 use Rattle.line_layouts.proofs.Tables.{turned}
 use Rattle.line_layouts.proofs.Laid.{most-columns, back-inside}
-use Rattle.line_layouts.proofs.Fills.{map-take, padded-at, length-padded, says, Withins}
+use Rattle.line_layouts.proofs.Fills.{map-take, padded-at, length-padded, stored-all, says, Withins}
 use Rattle.line_texts.specs.declared.Cut.{Cut}
 use Rattle.line_texts.specs.Pieces.{split, gathered, entryIn, entriesIn}
 use Rattle.line_texts.specs.Places.{noPlace, placesFrom, placesOf, placesIn, saidIn, fieldsIn, lineIn, short, CutAt}
@@ -152,11 +152,8 @@ module _ (sep : ℕ) (s : List ℕ) (tag : Tag) where
       → ((i : ℕ) → getD fs i noField ≡ getD (take j fields) i noField)
       → record { tag = tag; fields = fs } ≡ lineIn sep s tag
   filled-all fs j h seven all =
-      let whole : take j fields ≡ fields = take-all j fields (omega (arith, length-all)) in
       ap (λ (l : List Field). record { tag = tag; fields = l })
-      (ext-getD noField fs (padded fields)
-      (seven ∙ sym (length-padded fields (omega (arith, length-all, most-columns tag))))
-      (λ (i : ℕ) inside. all i ∙ ap (λ (l : List Field). getD l i noField) whole ∙ sym (padded-at fields i)))
+      (stored-all fields fs j (omega (arith, length-all)) (omega (arith, length-all, most-columns tag)) seven all)
 
   module _ (long : 4 ≤ length s) where
     pub line-means : meaningOf s (lineIn sep s tag)

@@ -1,7 +1,7 @@
 // From a line to its record: document 01, "Count lines", Read.
+use line_laying::place;
 use line_layouts::Fault;
 use line_layouts::Layout;
-use line_layouts::laying::place;
 use line_texts::contents::ending_of;
 use line_texts::contents::judge_content;
 use numbers::Order;

@@ -1,12 +1,12 @@
 // From a record to its line: document 01, "Count lines", Written.
 use answers::Answer;
+use line_laying::place;
 use line_layouts::Fault;
 use line_layouts::Layout;
 use line_layouts::Line;
 use line_layouts::Said;
 use line_layouts::columns::column_count;
-use line_layouts::laying::place;
-use line_layouts::laying::said_at;
+use line_layouts::judging::said_at;
 use line_layouts::names::part_allowed;
 use line_records::judge_record;
 use numbers::Order;
