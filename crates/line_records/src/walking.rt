@@ -29,10 +29,11 @@ ghost use Prim.Native.Nat.{_+_, _-_, _≤_, _<_};
 ghost use lib.ListN.{length};
 ghost use Rattle.line_layouts.specs.Columns.{width};
 ghost use Rattle.line_layouts.specs.Fitting.{isNumber};
-ghost use Rattle.line_layouts.specs.Judging.{Taken};
+ghost use Rattle.line_layouts.specs.Judging.{Held};
 ghost use Rattle.line_records.specs.Walks.{isFlag, meant};
 ghost use Rattle.line_records.specs.Records.{bodyMeans};
 ghost use Rattle.line_records.specs.Places.{numberIn, hiddenSaid, Stepped, LetterStepped, NameStepped, Going};
+ghost use Rattle.line_records.specs.Places.{lineAt};
 
 // A byte as a number: reading it asks for its place only.
 fn byte(x: u8) -> u32
@@ -173,7 +174,8 @@ fn hide(column: Column, gone: bool, said: Said) -> Said
 }
 
 pub fn walk(order: Order, tag: Tag, s: &[u8]) -> Judged
-    ensures { λ r. ⌜ Taken (now (s .entry)) (bodyMeans tag (meant order tag (now (s .entry)))) r ⌝ }
+    ensures { λ r. ⌜ Held (now (s .entry)) (lineAt order tag (now (s .entry)))
+        (bodyMeans tag (meant order tag (now (s .entry)))) r ⌝ }
 {
     let count = column_count(tag);
     let bar = bar_of(tag);
