@@ -1,7 +1,7 @@
 -- Each table is sound and each order has its way back, by computation; a separator is none of the bytes that fields are made of.
 -- Assumes nothing.
 use mathlib.Core.Path.{_≡_, refl, sym}
-use mathlib.Core.Bool.{Bool, true, false, not, _&&_, _||_}
+use mathlib.Core.Bool.{true, false, not, _&&_, _||_}
 use mathlib.Core.List.{List, _∷_}
 use Prim.Native.Nat.{ℕ, _-_, _≤_, _<_, _^_}
 use Prim.Native.Char.{code}
@@ -18,7 +18,7 @@ use Rattle.line_layouts.specs.declared.Form.{Form}
 use Rattle.line_layouts.specs.declared.Form.the-variants.{U1, U2, U4, C1, Cn}
 use Rattle.line_layouts.specs.declared.Flag.{Flag}
 use Rattle.line_layouts.specs.declared.Column.{Column}
-use Rattle.line_layouts.specs.Arranging.{arranged, Turned}
+use Rattle.line_layouts.specs.Arranging.{Turned}
 use Rattle.line_layouts.specs.Columns.{separator, columns, bar, order, back}
 use Rattle.line_layouts.specs.Layouts.{missingValue, isName}
 use Rattle.line_layouts.specs.Names.{separates}

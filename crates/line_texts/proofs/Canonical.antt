@@ -3,7 +3,7 @@
 use mathlib.Core.Path.{_≡_, refl, ap, sym, subst, _∙_}
 use mathlib.Core.Bool.{Bool, true, false, cond, not, _&&_, _||_}
 use mathlib.Core.List.{List, [], _∷_, _++_, map, append-assoc, append-nil}
-use Prim.Native.Nat.{ℕ, zero, suc, _+_, _-_, _≤_, _<_, _^_}
+use Prim.Native.Nat.{ℕ, zero, suc, _+_, _-_, _≤_, _<_}
 use Prim.Native.Char.{code}
 use native.Mathlib.Omega.{arith}
 use borrow.Author.Tests.{leb-true, le-leb, eqb-true, eqb-false, eq-eqb, ne-eqb, not-true}
@@ -17,7 +17,7 @@ use Rattle.prelude.proofs.Each.{each-append, each-take, each-at}
 use Rattle.digits.specs.declared.Numeral.{Numeral}
 use Rattle.digits.specs.declared.Numeral.the-variants.{Value, NotANumber}
 use Rattle.digits.specs.Digits.{digits, isDigit, numeral}
-use Rattle.digits.proofs.Laws.{digits-digits, digits-some, numeral-digits, digit-least, digit-most}
+use Rattle.digits.proofs.Laws.{digits-digits, digits-some, numeral-digits, digit-least}
 use Rattle.line_layouts.specs.declared.Tag.{Tag}
 use Rattle.line_layouts.specs.declared.Tag.the-variants.{Pcr, Hbr, Sbr}
 use Rattle.line_layouts.specs.declared.Column.{Column}

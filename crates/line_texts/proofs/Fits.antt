@@ -3,11 +3,11 @@
 use mathlib.Core.Path.{_≡_, refl, ap, sym, _∙_}
 use mathlib.Core.Bool.{Bool, true, false, cond, not}
 use mathlib.Core.List.{List, [], _∷_}
-use Prim.Native.Nat.{ℕ, _+_, _≤_, min}
+use Prim.Native.Nat.{ℕ, _+_, _-_, _≤_, min}
 use Prim.Native.Char.{code}
 use native.Mathlib.Omega.{arith}
 use native.Mathlib.Nat.{min-eq-left, min-eq-right}
-use borrow.Author.Tests.{eq-eqb, ne-eqb, leb-true, leb-false}
+use borrow.Author.Tests.{eq-eqb, ne-eqb, leb-true, leb-false, le-leb}
 use lib.Dec.{eqb, leb}
 use lib.ListN.{length, getD, take, drop}
 use lib.Seq.{take-all, take-take}
@@ -19,12 +19,12 @@ use Rattle.output.specs.Placed.{part}
 use Rattle.output.proofs.Laws.{length-part}
 use Rattle.values.specs.declared.Name.{Name}
 use Rattle.line_layouts.specs.declared.Tag.{Tag}
-use Rattle.line_layouts.specs.declared.Tag.the-variants.{Pcr, Hbr, Sbr}
 use Rattle.line_layouts.specs.declared.Said.the-variants as said
-use Rattle.line_layouts.specs.Columns.{columns}
+use Rattle.line_layouts.specs.Columns.{columns, bar}
 use Rattle.line_layouts.specs.Entries.{Text, named}
 use Rattle.line_layouts.specs.declared.Column.{Column}
-use Rattle.line_layouts.specs.Fitting.{isNumber, letterFits}
+use Rattle.line_layouts.specs.Fitting.{isNumber, letterFits, tableSound}
+use Rattle.line_layouts.proofs.Tables.{sound, Sane, sane, rest-sound}
 use Rattle.line_texts.specs.Pieces.{numberFits, numberIn, valueFits, pieceFits, entryIn}
 use Rattle.line_texts.specs.Places.{numberSaid, textSaid, saidIn, Holds, short}
 
@@ -122,8 +122,17 @@ module _ (s : List ℕ) (c : Column) (n : Name) (h : n .at + n .len ≤ length s
       go [] e = record { says = refl; there = tt }
       go (b ∷ bs) e = value-holds b bs e (isNumber (c .0)) refl
 
--- every column of text is short
+-- every column of text is short, since its table is sound
+short-sane : (c : Column) → Sane c → short c ≡ true
+short-sane c ok = go (isNumber (c .0)) refl
+  where
+    go : (t : Bool) → isNumber (c .0) ≡ t → short c ≡ true
+    go true f = rw f
+    go false f = rw (f, le-leb (c .1) 255 (ok .short f))
+
+short-all : (k : ℕ) (cs : List Column) → tableSound k cs ≡ true → each short cs ≡ true
+short-all k [] ok = refl
+short-all k (c ∷ cs) ok = rw (short-sane c (sane k c cs ok), short-all (k - 1) cs (rest-sound k c cs ok))
+
 pub short-columns : (tag : Tag) → each short (columns tag) ≡ true
-short-columns Pcr = refl
-short-columns Hbr = refl
-short-columns Sbr = refl
+short-columns tag = short-all (bar tag) (columns tag) (sound tag)

@@ -2,7 +2,7 @@
 -- Assumes nothing.
 use mathlib.Core.Path.{_≡_, refl, ap, sym, _∙_}
 use mathlib.Core.Bool.{true}
-use mathlib.Core.List.{List, [], _∷_, _++_, map}
+use mathlib.Core.List.{List, [], _∷_, map}
 use Prim.Native.Nat.{ℕ, zero, suc, _+_, _≤_, _<_}
 use native.Mathlib.Omega.{arith}
 use lib.ListN.{length, getD, take, drop, length-append, length-drop, List·getD-map}
@@ -12,11 +12,9 @@ use Rattle.prelude.proofs.Both.{both-left, both-right}
 use Rattle.values.specs.declared.Name.{Name}
 use Rattle.line_layouts.specs.declared.Tag.{Tag}
 use Rattle.line_layouts.specs.declared.Field.{Field}
-use Rattle.line_layouts.specs.declared.Line.{Line}
 use Rattle.line_layouts.specs.declared.Column.{Column}
-use Rattle.line_layouts.specs.Arranging.{arranged}
 use Rattle.line_layouts.specs.Columns.{columns, noColumn, back}
-use Rattle.line_layouts.specs.Entries.{Entry, Meaning, named, entriesOf, meaningOf, noField, noFields, padded, AllWithin}
+use Rattle.line_layouts.specs.Entries.{Entry, named, meaningOf, noField, noFields, padded, AllWithin}
 use Rattle.line_layouts.proofs.Arranging.{length-arranged, arranged-in, arranged-at, arranged-same, map-arranged}
 use Rattle.line_layouts.proofs.Tables.{turned}
 use Rattle.line_layouts.proofs.Laid.{most-columns, back-inside}
