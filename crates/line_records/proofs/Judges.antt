@@ -62,6 +62,7 @@ pub held-said : (ends : Order) (tag : Tag) (s : List ℕ) (fields : List Field) 
     → length fields ≡ 7 → Withins s fields → meant ends tag s ≡ Fits (map (says s) (take n fields))
     → fields ≡ padded (fieldsFrom ends (columns tag) s 0 true)
     → Held s (lineAt ends tag s) (bodyMeans tag (meant ends tag s)) (saying (record { tag = tag; fields = fields }))
+unfolding lineAt
 held-said ends tag s fields n all seven within is same =
     record {
       taken = taken-said ends tag s fields n all seven within is;

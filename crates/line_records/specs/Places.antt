@@ -127,7 +127,7 @@ fieldsFrom ends (c ∷ cs) s at gone =
     record { said = placeSaid ends c s at gone } ∷
     fieldsFrom ends cs s (stepNext c s at) (isMissing (placeSaid ends c s at gone))
 
-abbrev pub lineAt : Order → Tag → List ℕ → Line
+unfoldable pub lineAt : Order → Tag → List ℕ → Line
 lineAt ends tag s = record { tag = tag; fields = padded (fieldsFrom ends (columns tag) s 0 true) }
 
 abbrev pub lineTagged : Order → Tagging → List ℕ → Line
@@ -135,5 +135,5 @@ lineTagged ends (Known tag) s = lineAt ends tag s
 lineTagged ends Other s = noLine
 
 -- text is told by places in the body
-abbrev pub recordLine : Order → List ℕ → Line
+unfoldable pub recordLine : Order → List ℕ → Line
 recordLine ends s = lineTagged ends (countTag (kindOf (recTyp s) (recSub s))) (body s)

@@ -149,6 +149,7 @@ module _ (sep : ℕ) (s : List ℕ) (tag : Tag) where
   pub filled-all : (fs : List Field) (j : ℕ) → length (columns tag) ≤ j → length fs ≡ 7
       → ((i : ℕ) → getD fs i noField ≡ getD (take j fields) i noField)
       → record { tag = tag; fields = fs } ≡ lineIn sep s tag
+  unfolding lineIn
   filled-all fs j h seven all =
       ap (λ (l : List Field). record { tag = tag; fields = l })
       (stored-all fields fs j (omega (arith, length-all)) (omega (arith, length-all, most-columns tag)) seven all)
@@ -156,6 +157,7 @@ module _ (sep : ℕ) (s : List ℕ) (tag : Tag) where
   module _ (long : 4 ≤ length s) where
     pub line-means : meaningOf s (lineIn sep s tag)
         ≡ record { tag = tag; entries = entriesIn (columns tag) (gathered tag (split sep (drop 4 s))) }
+    unfolding lineIn
     line-means =
         ap (λ (l : List Entry). record { tag = tag; entries = l })
         (map-take (says s) (length (columns tag)) (padded fields)
@@ -164,6 +166,7 @@ module _ (sep : ℕ) (s : List ℕ) (tag : Tag) where
         ∙ ap (entriesIn (columns tag)) (named-in s sep long tag))
 
     pub line-within : AllWithin s (lineIn sep s tag)
+    unfolding lineIn
     line-within =
         record {
           seven = length-padded fields (omega (arith, length-all, most-columns tag));

@@ -313,6 +313,7 @@ module _ (sep : ℕ) (s : List ℕ) where
       go false f = not-said m (sym (content-broken sep s f) ∙ e)
 
 pub content-taken : ContentTaken
+unfolding contentHeld
 content-taken sep s j e =
     subst (λ (k : Judged). Taken s (contentMeans sep s) k) (sym e)
     (taken-held s (lineOf sep s) (contentMeans sep s) (content-held sep s))

@@ -75,7 +75,7 @@ fieldsIn s [] ns = []
 fieldsIn s (c ∷ cs) [] = []
 fieldsIn s (c ∷ cs) (n ∷ ns) = record { said = saidIn c (n .at) (named s n) } ∷ fieldsIn s cs ns
 
-abbrev pub lineIn : ℕ → List ℕ → Tag → Line
+unfoldable pub lineIn : ℕ → List ℕ → Tag → Line
 lineIn sep s tag = record { tag = tag; fields = padded (fieldsIn s (columns tag) (placesIn sep s tag)) }
 
 abbrev pub lineTagged : ℕ → List ℕ → Tagging → Line
@@ -86,7 +86,7 @@ abbrev pub lineOf : ℕ → List ℕ → Line
 lineOf sep s = lineTagged sep s (tagOf s)
 
 -- the whole of what this code holds of a line without its ending
-abbrev pub contentHeld : ℕ → List ℕ → Judged
+unfoldable pub contentHeld : ℕ → List ℕ → Judged
 contentHeld sep s = heldBy (lineOf sep s) (contentMeans sep s)
 
 -- a field says an entry, by bytes that are there

@@ -49,6 +49,7 @@ part-walk-start : tie.Need-part-walk-start
 part-walk-start c = whole (c .before .before .before .before .before .before .before)
 
 returns-2 : tie.Need-returns-2
+unfolding recordLine
 returns-2 c =
     let t = c .before .before .before in
     let n = t .before .before in

@@ -6,6 +6,7 @@ use denote.Ref.{now}
 use borrow.Author.Tests.{not-true, not-false}
 use borrow.Author.Needs.{needs}
 use Rattle.line_texts.specs.Texts.{unbroken}
+use Rattle.line_texts.specs.Places.{contentHeld}
 use Rattle.line_texts.proofs.Whole.{content-broken, content-tagged, tag-four}
 use Rattle.line_texts.proofs.contents.judge_content.Statement.{statement}
 use Rattle.line_texts.proofs.contents.judge_content.Tie as tie
@@ -14,6 +15,7 @@ whole : (c : tie.Else1) → unbroken (now (c .before .before .before .args .s)) 
 whole c = sym (c .before .is-unbroken .ensures) ∙ not-false (c .before .is-unbroken .result) (c .if1 .left)
 
 returns : tie.Need-returns
+unfolding contentHeld
 returns c =
     let a = c .before .before .before .before .args in
     let told = c .before .before .is-unbroken in
@@ -26,6 +28,7 @@ judge-fields-requires c κs =
     (c .before .tag .given .0 .0) (sym (c .before .before .before .tag-of .ensures) ∙ c .before .tag .given .1)
 
 returns-2 : tie.Need-returns-2
+unfolding contentHeld
 returns-2 c =
     let a = c .before .before .before .before .before .before .before .before .args in
     let tagged = sym (c .before .before .before .before .tag-of .ensures) ∙ c .before .before .tag .given .1 in
@@ -33,6 +36,7 @@ returns-2 c =
     (c .judge-fields .ensures)
 
 returns-3 : tie.Need-returns-3
+unfolding contentHeld
 returns-3 c =
     let a = c .before .before .before .before .before .before .before .args in
     let tagged = sym (c .before .before .before .tag-of .ensures) ∙ c .before .enum-told .given .1 in
