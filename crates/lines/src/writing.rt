@@ -1,4 +1,5 @@
 // From a record to its line: document 01, "Count lines", Written.
+use crate::refuse;
 use answers::Answer;
 use line_layouts::Fault;
 use line_layouts::Layout;
@@ -59,7 +60,7 @@ fn write_said(out: &mut [u8], at: usize, sep: u8, source: &[u8], line: Line) -> 
     if line_allowed(sep, source, line) {
         place(out, at, Layout::Text(sep), source, line)
     } else {
-        Written::Refused(Answer::NameNotText)
+        refuse(out, Answer::NameNotText)
     }
 }
 
@@ -71,7 +72,7 @@ pub fn write_in(out: &mut [u8], at: usize, order: Order, sep: u8, record: &[u8])
     let fault = judged.fault;
     let line = judged.line;
     match fault {
-        Fault::Found(answer) => Written::Refused(answer),
+        Fault::Found(answer) => refuse(out, answer),
         Fault::None => write_said(out, at, sep, &record[4..], line),
     }
 }

@@ -10,7 +10,7 @@ place-requires c κs =
 
 returns : tie.Need-returns
 returns c =
-    rw (← c .before .before .before .before .judge-content .ensures .means, c .before .fault .given .1)
+    rw (← c .before .before .before .before .before .before .before .before .judge-content .ensures .means, c .before .before .before .before .before .fault .given .1) (c .before .before .refuse .ensures)
 
 returns-2 : tie.Need-returns-2
 returns-2 c =
@@ -30,8 +30,14 @@ enum-known-fault c = search needs
 enum-told : tie.Need-enum-told
 enum-told c = search needs
 
+refuse-requires : tie.Need-refuse-requires
+refuse-requires c κs = tt
+
 same-length : tie.Need-same-length
 same-length c = search needs
+
+same-length-2 : tie.Need-same-length-2
+same-length-2 c = search needs
 
 pub read-content-spec : {M : Type 1} → statement M
 read-content-spec =
@@ -39,8 +45,10 @@ read-content-spec =
     (tie.spec
     judge-content-requires
     enum-known-fault
+    refuse-requires
     enum-told
     place-requires
-    returns
     same-length
+    returns
+    same-length-2
     returns-2)

@@ -36,7 +36,7 @@ write-said-requires c κs =
 
 returns : tie.Need-returns
 returns c =
-    rw (← c .before .before .before .before .judge-record .ensures .means, c .before .fault .given .1)
+    rw (← c .before .before .before .before .before .before .before .before .judge-record .ensures .means, c .before .before .before .before .before .fault .given .1) (c .before .before .refuse .ensures)
 
 returns-2 : tie.Need-returns-2
 returns-2 c =
@@ -59,8 +59,14 @@ enum-told c = search needs
 part-write-said-end : tie.Need-part-write-said-end
 part-write-said-end c = search needs
 
+refuse-requires : tie.Need-refuse-requires
+refuse-requires c κs = tt
+
 same-length : tie.Need-same-length
 same-length c = search needs
+
+same-length-2 : tie.Need-same-length-2
+same-length-2 c = search needs
 
 pub write-in-spec : {M : Type 1} → statement M
 write-in-spec =
@@ -68,11 +74,13 @@ write-in-spec =
     (tie.spec
     judge-record-requires
     enum-known-fault
+    refuse-requires
     enum-told
     sub-write-said
     part-write-said-start
     part-write-said-end
     write-said-requires
-    returns
     same-length
+    returns
+    same-length-2
     returns-2)
