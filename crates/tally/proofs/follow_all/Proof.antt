@@ -33,19 +33,6 @@ read-more-requires c κs =
     let fine = inside .before .loop .inv in
     (fine .right .within, fine .long, fine .low (inside .loop-test .taken))
 
-follow-requires : tie.Need-follow-requires Inv-loop μ-loop
-follow-requires c κs =
-    let done = c .before .before .before in
-    let inside = turn done in
-    let fine = inside .before .loop .inv in
-    let more = inside .loop-test .taken in
-    let reads = done .read-more .ensures in
-    let same = done .read-more .kept .1 .0 in (
-      right-mid _ _ _ fine more _ _ reads same,
-      within-mid _ _ _ fine more _ _ reads same,
-      omega (arith, reads .within, fine .few, fine .low more, fine .long),
-    )
-
 loop-less : tie.Need-loop-less Inv-loop μ-loop
 loop-less c =
     let inside = turn (read c) in
@@ -58,6 +45,19 @@ loop-again c =
     let inside = turn (read c) in
     fine-on _ _ _ (inside .before .loop .inv) (inside .loop-test .taken) _ _ (read c .read-more .ensures)
     (read c .read-more .kept .1 .0) _ _ (followed .follow .kept .1 .0) (followed .follow .ensures)
+
+follow-requires : tie.Need-follow-requires Inv-loop μ-loop
+follow-requires c κs =
+    let done = c .before .before .before in
+    let inside = turn done in
+    let fine = inside .before .loop .inv in
+    let more = inside .loop-test .taken in
+    let reads = done .read-more .ensures in
+    let same = done .read-more .kept .1 .0 in (
+      right-mid _ _ _ fine more _ _ reads same,
+      omega (arith, within-mid _ _ _ fine more _ _ reads same),
+      omega (arith, reads .within, fine .few, fine .low more, fine .long),
+    )
 
 -- the stream has stopped
 returns : tie.Need-returns Inv-loop μ-loop

@@ -38,6 +38,21 @@ cells c = search needs
 range : (c : tie.After-stage-of) → Bytes (now (start c .args .buf))
 range c k = omega (arith, known c .slice-known .given k)
 
+-- the promise first: it is what a record judged too long is refused by
+returns : tie.Need-returns
+returns c =
+    let kept = c .before .before in
+    let from = staged (walked (kept .before)) in
+    let s = start from in
+    let end = s .args .s .held + s .args .got in
+    let front = front-part end (now (s .args .buf)) in
+    chunk-told (s .args .s) (now (s .args .buf)) (s .args .got) (s .pre .0) (s .pre .1) (s .pre .2) (s .pre .3)
+    (long s) (paired s) (cells s) _ front
+    (from .before .alone .ensures) (from .stage-of .ensures) _ _ _ _ (walked (kept .before) .walk .ensures)
+    (part-bytes (now (s .args .buf)) 0 (end - 0) (range from))
+    (kept .before .before .before .standing-of .ensures)
+    (kept .before .kept-from .ensures) _ _ (kept .keep .ensures .0) (kept .keep .kept .0) (kept .keep .ensures .1)
+
 walk-requires : tie.Need-walk-requires
 walk-requires c κs =
     let from = c .before .before in
@@ -56,20 +71,6 @@ keep-requires c κs =
           (c .kept-from .ensures),
       s .pre .2,
     )
-
-returns : tie.Need-returns
-returns c =
-    let kept = c .before .before in
-    let from = staged (walked (kept .before)) in
-    let s = start from in
-    let end = s .args .s .held + s .args .got in
-    let front = front-part end (now (s .args .buf)) in
-    chunk-told (s .args .s) (now (s .args .buf)) (s .args .got) (s .pre .0) (s .pre .1) (s .pre .2) (s .pre .3)
-    (long s) (paired s) (cells s) _ front
-    (from .before .alone .ensures) (from .stage-of .ensures) _ _ _ _ (walked (kept .before) .walk .ensures)
-    (part-bytes (now (s .args .buf)) 0 (end - 0) (range from))
-    (kept .before .before .before .standing-of .ensures)
-    (kept .before .kept-from .ensures) _ _ (kept .keep .ensures .0) (kept .keep .kept .0) (kept .keep .ensures .1)
 
 -- ---- found by search
 
