@@ -5,14 +5,14 @@
 --   verbOf    which verb a word is
 -- Assumes nothing.
 use mathlib.Core.Bool.{Bool, true, false, cond, _&&_}
-use mathlib.Core.List.{List, [], _∷_}
+use mathlib.Core.List.{List, [], _∷_, _++_}
 use Prim.Native.Nat.{ℕ, suc, _+_}
 use Prim.Native.Char.{code}
 use lib.Dec.{eqb}
 use lib.ListN.{drop}
 use Rattle.script.specs.declared.Verb.{Verb}
 use Rattle.script.specs.declared.Verb.the-variants.{Fresh, Open, Deliver, Report, Close, Figures, Write, Read}
-use Rattle.script.specs.declared.Verb.the-variants.{Other}
+use Rattle.script.specs.declared.Verb.the-variants.{Help, Other}
 
 abbrev pub space : ℕ
 space = code " "
@@ -50,16 +50,23 @@ pub record Named : Type 0 where
 abbrev pub named : Verb → List ℕ → Named
 named verb word = record { word = word; verb = verb }
 
-abbrev pub verbs : List Named
-verbs =
+-- the verbs that are calls on a house
+abbrev pub houseVerbs : List Named
+houseVerbs =
     named Deliver (code "d" ∷ code "e" ∷ code "l" ∷ code "i" ∷ code "v" ∷ code "e" ∷ code "r" ∷ []) ∷
     named Open (code "o" ∷ code "p" ∷ code "e" ∷ code "n" ∷ []) ∷
     named Report (code "r" ∷ code "e" ∷ code "p" ∷ code "o" ∷ code "r" ∷ code "t" ∷ []) ∷
     named Close (code "c" ∷ code "l" ∷ code "o" ∷ code "s" ∷ code "e" ∷ []) ∷
     named Figures (code "f" ∷ code "i" ∷ code "g" ∷ code "u" ∷ code "r" ∷ code "e" ∷ code "s" ∷ []) ∷
+    []
+
+-- .. and all others
+abbrev pub otherVerbs : List Named
+otherVerbs =
     named Fresh (code "f" ∷ code "r" ∷ code "e" ∷ code "s" ∷ code "h" ∷ []) ∷
     named Write (code "w" ∷ code "r" ∷ code "i" ∷ code "t" ∷ code "e" ∷ []) ∷
     named Read (code "r" ∷ code "e" ∷ code "a" ∷ code "d" ∷ []) ∷
+    named Help (code "h" ∷ code "e" ∷ code "l" ∷ code "p" ∷ []) ∷
     []
 
 abbrev pub verbIn : List Named → List ℕ → Verb
@@ -67,4 +74,4 @@ verbIn [] w = Other
 verbIn (n ∷ ns) w = cond (same w (n .word)) (n .verb) (verbIn ns w)
 
 unfoldable pub verbOf : List ℕ → Verb
-verbOf w = verbIn verbs w
+verbOf w = verbIn (houseVerbs ++ otherVerbs) w

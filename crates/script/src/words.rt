@@ -3,7 +3,7 @@ use crate::Verb;
 ghost use mathlib.Core.Path.{_≡_};
 ghost use Prim.Native.Nat.{_≤_};
 ghost use lib.ListN.{length};
-ghost use Rattle.script.specs.Words.{wordEnd, same, verbOf};
+ghost use Rattle.script.specs.Words.{wordEnd, same, verbIn, otherVerbs, verbOf};
 
 // Where the word that starts at `from` ends: at the next space, or at the line's end.
 pub fn word_end(line: &[u8], from: usize) -> usize
@@ -21,7 +21,7 @@ pub fn word_end(line: &[u8], from: usize) -> usize
 }
 
 // Whether a word is this name.
-pub(crate) fn is_name(word: &[u8], name: &[u8]) -> bool
+pub fn is_name(word: &[u8], name: &[u8]) -> bool
     ensures { λ r. ⌜ r ≡ same (now (word .entry)) (now (name .entry)) ⌝ }
 {
     if word.len() != name.len() {
@@ -35,6 +35,25 @@ pub(crate) fn is_name(word: &[u8], name: &[u8]) -> bool
         i += 1;
     }
     true
+}
+
+// A verb that is no call on a house.
+fn other_verb(word: &[u8]) -> Verb
+    ensures { λ r. ⌜ r ≡ verbIn otherVerbs (now (word .entry)) ⌝ }
+{
+    if is_name(word, b"fresh") {
+        return Verb::Fresh;
+    }
+    if is_name(word, b"write") {
+        return Verb::Write;
+    }
+    if is_name(word, b"read") {
+        return Verb::Read;
+    }
+    if is_name(word, b"help") {
+        return Verb::Help;
+    }
+    Verb::Other
 }
 
 pub fn verb_of(word: &[u8]) -> Verb
@@ -55,14 +74,5 @@ pub fn verb_of(word: &[u8]) -> Verb
     if is_name(word, b"figures") {
         return Verb::Figures;
     }
-    if is_name(word, b"fresh") {
-        return Verb::Fresh;
-    }
-    if is_name(word, b"write") {
-        return Verb::Write;
-    }
-    if is_name(word, b"read") {
-        return Verb::Read;
-    }
-    Verb::Other
+    other_verb(word)
 }

@@ -1,62 +1,45 @@
--- `script::words::verb_of` meets its contract: a word that is none of the first verbs is looked for among the rest.
+-- `script::words::verb_of` meets its contract: a word that is no call on a house is
+-- looked for among the other verbs.
 -- Assumes nothing.
 use mathlib.Core.Path.{_≡_, refl, sym, _∙_}
-use mathlib.Core.List.{List}
+use mathlib.Core.List.{List, _++_}
 use Prim.Native.Nat.{ℕ}
 use lib.ListN.{drop}
 use denote.Ref.{now}
-use Rattle.script.specs.Words.{verbs, verbIn, verbOf}
+use Rattle.script.specs.Words.{houseVerbs, otherVerbs, verbIn, verbOf}
 use Rattle.script.proofs.words.verb_of.Statement.{statement}
 use Rattle.script.proofs.words.verb_of.Tie as tie
 
 abbrev text1 : tie.Else1 → List ℕ
 text1 c = now (c .before .before .before .before .args .word)
 
-left1 : (c : tie.Else1) → verbOf (text1 c) ≡ verbIn (drop 1 verbs) (text1 c)
+left1 : (c : tie.Else1) → verbOf (text1 c) ≡ verbIn (drop 1 (houseVerbs ++ otherVerbs)) (text1 c)
 unfolding verbOf
 left1 c = rw (sym (c .before .is-name .ensures) ∙ c .if1 .left)
 
 abbrev text2 : tie.Else2 → List ℕ
 text2 c = text1 (c .before .before .before)
 
-left2 : (c : tie.Else2) → verbOf (text2 c) ≡ verbIn (drop 2 verbs) (text2 c)
+left2 : (c : tie.Else2) → verbOf (text2 c) ≡ verbIn (drop 2 (houseVerbs ++ otherVerbs)) (text2 c)
 left2 c = left1 (c .before .before .before) ∙ rw (sym (c .before .is-name2 .ensures) ∙ c .if2 .left)
 
 abbrev text3 : tie.Else3 → List ℕ
 text3 c = text2 (c .before .before .before)
 
-left3 : (c : tie.Else3) → verbOf (text3 c) ≡ verbIn (drop 3 verbs) (text3 c)
+left3 : (c : tie.Else3) → verbOf (text3 c) ≡ verbIn (drop 3 (houseVerbs ++ otherVerbs)) (text3 c)
 left3 c = left2 (c .before .before .before) ∙ rw (sym (c .before .is-name3 .ensures) ∙ c .if3 .left)
 
 abbrev text4 : tie.Else4 → List ℕ
 text4 c = text3 (c .before .before .before)
 
-left4 : (c : tie.Else4) → verbOf (text4 c) ≡ verbIn (drop 4 verbs) (text4 c)
+left4 : (c : tie.Else4) → verbOf (text4 c) ≡ verbIn (drop 4 (houseVerbs ++ otherVerbs)) (text4 c)
 left4 c = left3 (c .before .before .before) ∙ rw (sym (c .before .is-name4 .ensures) ∙ c .if4 .left)
 
 abbrev text5 : tie.Else5 → List ℕ
 text5 c = text4 (c .before .before .before)
 
-left5 : (c : tie.Else5) → verbOf (text5 c) ≡ verbIn (drop 5 verbs) (text5 c)
+left5 : (c : tie.Else5) → verbOf (text5 c) ≡ verbIn (drop 5 (houseVerbs ++ otherVerbs)) (text5 c)
 left5 c = left4 (c .before .before .before) ∙ rw (sym (c .before .is-name5 .ensures) ∙ c .if5 .left)
-
-abbrev text6 : tie.Else6 → List ℕ
-text6 c = text5 (c .before .before .before)
-
-left6 : (c : tie.Else6) → verbOf (text6 c) ≡ verbIn (drop 6 verbs) (text6 c)
-left6 c = left5 (c .before .before .before) ∙ rw (sym (c .before .is-name6 .ensures) ∙ c .if6 .left)
-
-abbrev text7 : tie.Else7 → List ℕ
-text7 c = text6 (c .before .before .before)
-
-left7 : (c : tie.Else7) → verbOf (text7 c) ≡ verbIn (drop 7 verbs) (text7 c)
-left7 c = left6 (c .before .before .before) ∙ rw (sym (c .before .is-name7 .ensures) ∙ c .if7 .left)
-
-abbrev text8 : tie.Else8 → List ℕ
-text8 c = text7 (c .before .before .before)
-
-left8 : (c : tie.Else8) → verbOf (text8 c) ≡ verbIn (drop 8 verbs) (text8 c)
-left8 c = left7 (c .before .before .before) ∙ rw (sym (c .before .is-name8 .ensures) ∙ c .if8 .left)
 
 returns : tie.Need-returns
 unfolding verbOf
@@ -75,16 +58,7 @@ returns-5 : tie.Need-returns-5
 returns-5 c = sym (left4 (c .before .before .before) ∙ rw (sym (c .before .is-name5 .ensures) ∙ c .if5 .taken))
 
 returns-6 : tie.Need-returns-6
-returns-6 c = sym (left5 (c .before .before .before) ∙ rw (sym (c .before .is-name6 .ensures) ∙ c .if6 .taken))
-
-returns-7 : tie.Need-returns-7
-returns-7 c = sym (left6 (c .before .before .before) ∙ rw (sym (c .before .is-name7 .ensures) ∙ c .if7 .taken))
-
-returns-8 : tie.Need-returns-8
-returns-8 c = sym (left7 (c .before .before .before) ∙ rw (sym (c .before .is-name8 .ensures) ∙ c .if8 .taken))
-
-returns-9 : tie.Need-returns-9
-returns-9 c = sym (left8 c)
+returns-6 c = c .other-verb .ensures ∙ sym (left5 (c .before))
 
 -- ---- found by search
 
@@ -118,23 +92,8 @@ slice-aggregate-is-name-5 c = refl
 is-name-requires-5 : tie.Need-is-name-requires-5
 is-name-requires-5 c κs = tt
 
-slice-aggregate-is-name-6 : tie.Need-slice-aggregate-is-name-6
-slice-aggregate-is-name-6 c = refl
-
-is-name-requires-6 : tie.Need-is-name-requires-6
-is-name-requires-6 c κs = tt
-
-slice-aggregate-is-name-7 : tie.Need-slice-aggregate-is-name-7
-slice-aggregate-is-name-7 c = refl
-
-is-name-requires-7 : tie.Need-is-name-requires-7
-is-name-requires-7 c κs = tt
-
-slice-aggregate-is-name-8 : tie.Need-slice-aggregate-is-name-8
-slice-aggregate-is-name-8 c = refl
-
-is-name-requires-8 : tie.Need-is-name-requires-8
-is-name-requires-8 c κs = tt
+other-verb-requires : tie.Need-other-verb-requires
+other-verb-requires c κs = tt
 
 pub verb-of-spec : {M : Type 1} → statement M
 verb-of-spec =
@@ -155,13 +114,5 @@ verb-of-spec =
     slice-aggregate-is-name-5
     is-name-requires-5
     returns-5
-    slice-aggregate-is-name-6
-    is-name-requires-6
-    returns-6
-    slice-aggregate-is-name-7
-    is-name-requires-7
-    returns-7
-    slice-aggregate-is-name-8
-    is-name-requires-8
-    returns-8
-    returns-9)
+    other-verb-requires
+    returns-6)
