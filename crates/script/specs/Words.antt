@@ -50,28 +50,27 @@ pub record Named : Type 0 where
 abbrev pub named : Verb → List ℕ → Named
 named verb word = record { word = word; verb = verb }
 
--- the verbs that are calls on a house
-abbrev pub houseVerbs : List Named
-houseVerbs =
+abbrev pub verbs : List Named
+verbs =
     named Deliver (code "d" ∷ code "e" ∷ code "l" ∷ code "i" ∷ code "v" ∷ code "e" ∷ code "r" ∷ []) ∷
     named Open (code "o" ∷ code "p" ∷ code "e" ∷ code "n" ∷ []) ∷
     named Report (code "r" ∷ code "e" ∷ code "p" ∷ code "o" ∷ code "r" ∷ code "t" ∷ []) ∷
     named Close (code "c" ∷ code "l" ∷ code "o" ∷ code "s" ∷ code "e" ∷ []) ∷
     named Figures (code "f" ∷ code "i" ∷ code "g" ∷ code "u" ∷ code "r" ∷ code "e" ∷ code "s" ∷ []) ∷
-    []
-
--- .. and all others
-abbrev pub otherVerbs : List Named
-otherVerbs =
     named Fresh (code "f" ∷ code "r" ∷ code "e" ∷ code "s" ∷ code "h" ∷ []) ∷
     named Write (code "w" ∷ code "r" ∷ code "i" ∷ code "t" ∷ code "e" ∷ []) ∷
     named Read (code "r" ∷ code "e" ∷ code "a" ∷ code "d" ∷ []) ∷
     named Help (code "h" ∷ code "e" ∷ code "l" ∷ code "p" ∷ []) ∷
     []
 
+-- all words of verbs, one behind the other: the code has them so, since a text of its own for each costs much to prove
+abbrev pub joined : List Named → List ℕ
+joined [] = []
+joined (n ∷ ns) = n .word ++ joined ns
+
 abbrev pub verbIn : List Named → List ℕ → Verb
 verbIn [] w = Other
 verbIn (n ∷ ns) w = cond (same w (n .word)) (n .verb) (verbIn ns w)
 
 unfoldable pub verbOf : List ℕ → Verb
-verbOf w = verbIn (houseVerbs ++ otherVerbs) w
+verbOf w = verbIn verbs w
