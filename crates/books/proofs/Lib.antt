@@ -3,3 +3,4 @@ pub mod Following
 pub mod Booked
 pub mod Told
 pub mod Rooms
+pub mod Whole

@@ -1,6 +1,6 @@
 -- What every call is answered, told by the calls before it and their answers alone: statements only, over any sequence
--- of calls from a fresh house. Each is proved in proofs/Told.antt, or in proofs/Rooms.antt those of demand 3, under its
--- name in small letters. Document 01, "Order of checks", and "The house, its slots and its rows". What is told is told
+-- of calls from a fresh house. Each is proved in proofs/Told.antt, in proofs/Whole.antt those of a whole report, or in
+-- proofs/Rooms.antt those of demand 3, under its name in small letters. Document 01, "Order of checks", and "The house, its slots and its rows". What is told is told
 -- by books: nothing right of an equation is of a house, a session or a row's key.
 --
 --   recordChecks   the checks of a record by itself, and roomTo whether the house has room for it
@@ -9,7 +9,7 @@
 -- Assumes nothing.
 use mathlib.Core.Path.{_≡_}
 use mathlib.Core.Bool.{Bool, true, false, cond, not, _&&_, _||_}
-use mathlib.Core.List.{List, [], _∷_, _++_}
+use mathlib.Core.List.{List, [], _∷_, _++_, map}
 use Prim.Native.Nat.{ℕ, _+_, _-_, _≤_, _<_}
 use lib.Dec.{eqb, leb, ltb}
 use lib.ListN.{length}
@@ -89,6 +89,19 @@ ReportListed = (calls : List Call) (slot long : ℕ) → AllSent calls
     → answerOf (reply (reached fresh calls) (Report slot long)) ≡ Done
     → reply (reached fresh calls) (Report slot long)
     ≡ Listed Done (tallyOf (bookOf slot (history fresh calls) .results))
+
+-- an output of 1,024 rows is never too short
+abbrev pub ReportWhole : Type 0
+ReportWhole = (calls : List Call) (slot : ℕ) → AllSent calls → bookOf slot (history fresh calls) .opened ≡ true
+    → reply (reached fresh calls) (Report slot rowCount)
+    ≡ Listed Done (tallyOf (bookOf slot (history fresh calls) .results))
+
+-- so who opens a slot of a fresh house with all its rows, as the tally program does, can read the tally at any time
+abbrev pub AloneListed : Type 0
+AloneListed = (records : List (List ℕ))
+    → let calls = Open 0 rowCount ∷ map (Deliver 0) records in
+    AllSent calls → reply (reached fresh calls) (Report 0 rowCount)
+    ≡ Listed Done (tallyOf (bookOf 0 (history fresh calls) .results))
 
 -- Order of checks, Close: 1, 2
 abbrev pub CloseTold : Type 0
