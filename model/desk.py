@@ -9,7 +9,7 @@ import re
 import sys
 
 SLOTS, ROWS, MOST_PARTS, MOST_RESULTS, MOST_BIN = 16, 1024, 32, 4294967295, 32767
-LONGEST_LINE, MOST_LENT, MOST_PLACE = 140000, 4096, 2**64 - 1
+LONGEST_LINE, MOST_LENT = 140000, 4096
 COUNTED = "n"  # a C*n or B*n field: its first byte tells its length
 
 # the fields of each body that is read: required, then optional
@@ -215,6 +215,17 @@ NAME = re.compile(rb"[\x20-\x7b\x7d\x7e]*")
 LINE = re.compile(rb"(PCR|HBR|SBR):([^\r\n]*)(\r\n|\r|\n)?")
 ORDERS = {1: "big", 2: "little"}
 
+HELP = """\
+# fresh                        0
+# open SLOT FLOOR              N
+# deliver SLOT HEX             N
+# report SLOT LENGTH           N, or: 0 COUNT H/S/B=C H/S/B=C ..
+# close SLOT                   N
+# figures                      N, or: 0 FREE PROMISED
+# write ORDER AT LENGTH HEX    N OUT, or: 0 BYTES OUT
+# read ORDER AT LENGTH HEX     N OUT, or: 0 BYTES OUT
+# help                         these lines"""
+
 
 def line_of(order, rec):
     """The line of a record, or the number that it is refused with: 4, 3, 6, 7, 19."""
@@ -303,10 +314,11 @@ def placed(made, at, length):
     return f"{made} {out.hex() or '-'}"
 
 
-def number(word, digits=10, most=4294967295):
-    if not re.fullmatch(rb"[0-9]{1,%d}" % digits, word) or int(word) > most:
+def number(word):
+    """Any count of digits is a number. No limit of the desk has thirty, so the first thirty that count are enough."""
+    if not re.fullmatch(rb"[0-9]+", word):
         raise ValueError
-    return int(word)
+    return int(word.lstrip(b"0")[:30] or b"0")
 
 
 def hex_bytes(word):
@@ -320,6 +332,8 @@ def hex_bytes(word):
 def answer(house, words):
     """What a call answers; a ValueError where the words are no call."""
     name, given = words[0], words[1:]
+    if name == b"help" and not given:
+        return HELP
     if name == b"figures" and not given:
         return f"0 {house.free()} {house.promised()}"
     if name == b"close" and len(given) == 1:
@@ -331,7 +345,7 @@ def answer(house, words):
     if name == b"deliver" and len(given) == 2:
         return house.deliver(number(given[0]), hex_bytes(given[1]))
     if name in (b"write", b"read") and len(given) == 4:
-        order, at, length = number(given[0]), number(given[1], 20, MOST_PLACE), number(given[2])
+        order, at, length = map(number, given[:3])
         if length > MOST_LENT:
             raise ValueError
         make = line_of if name == b"write" else record_of

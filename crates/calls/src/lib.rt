@@ -33,24 +33,25 @@ fn answer_with(answer: Answer, house: House) -> Answered
 pub fn open_slot(house: House, slot: u32, floor: u32) -> Answered
     ensures { λ r. ⌜ r ≡ openSlot house slot floor ⌝ }
 {
-    let told = soundness_of(house);
+    let mut h = house;
+    let told = soundness_of(h);
     if !told.sound {
-        return answer_with(Answer::NotSound, house);
+        return answer_with(Answer::NotSound, h);
     }
     let i = slot as usize;
     if House::SLOTS <= i {
-        return answer_with(Answer::NoSuchSlot, house);
+        return answer_with(Answer::NoSuchSlot, h);
     }
     if House::ROWS < floor as usize {
-        return answer_with(Answer::FloorTooHigh, house);
+        return answer_with(Answer::FloorTooHigh, h);
     }
-    let mut h = house;
     let s = h.slots[i];
+    let free = (House::ROWS - h.used) as u32;
+    let spare = free - told.promised;
     if s.taken {
         return answer_with(Answer::SlotTaken, h);
     }
-    let free = (House::ROWS - h.used) as u32;
-    if free - told.promised < floor {
+    if spare < floor {
         return answer_with(Answer::NoRoom, h);
     }
     h.slots[i] = Slot::opened(floor);
@@ -99,7 +100,8 @@ pub fn close_slot(house: House, slot: u32) -> Answered
     h.keys = keys;
     h.counts = counts;
     h.used = used;
-    h.slots[i] = Slot::closed();
+    let none = Slot::closed();
+    h.slots[i] = none;
     answer_with(Answer::Done, h)
 }
 

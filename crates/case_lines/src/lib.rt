@@ -8,13 +8,13 @@ use input::Found;
 use input::Input;
 use input::next_line;
 use input::until;
+use numerals::Number;
+use numerals::is_hex;
+use numerals::number_of;
+use numerals::unhex;
 use output::put_part;
 pub use saying::MISSING;
 pub use saying::say_values;
-use script::Number;
-use script::is_hex;
-use script::number_of;
-use script::unhex;
 use script::word_end;
 use transcript::say;
 ghost use mathlib.Core.Path.{_≡_};
@@ -50,7 +50,7 @@ pub fn begin() -> Call
 }
 
 // Lays a word's bytes so many times behind the first `n` of the output, while there is room.
-fn lay(word: &[u8], times: u32, out: &mut [u8], n: usize) -> usize
+fn lay(word: &[u8], times: u64, out: &mut [u8], n: usize) -> usize
     requires { ⌜ n ≤ length (now out) ⌝ }
     ensures { λ r. ⌜ r ≤ length (now (out .exit)) ⌝ }
 {
@@ -69,7 +69,7 @@ fn lay(word: &[u8], times: u32, out: &mut [u8], n: usize) -> usize
 }
 
 // How many times a word is laid: the number behind its star, once without one.
-fn times_of(word: &[u8], star: usize) -> u32
+fn times_of(word: &[u8], star: usize) -> u64
     requires { ⌜ star ≤ length (now word) ⌝ }
 {
     if star == word.len() {

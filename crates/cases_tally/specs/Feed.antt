@@ -2,8 +2,8 @@
 -- Assumes nothing.
 use mathlib.Core.List.{List}
 use Prim.Native.Nat.{ℕ, _≤_}
-use Rattle.tallying.specs.declared.Stream.{Stream}
-use Rattle.tallying.specs.Lent.{Right}
+use Rattle.following.specs.declared.Stream.{Stream}
+use Rattle.following.specs.Lent.{Right}
 
 pub record Ready (s : Stream) (buf : List ℕ) : Type 0 where
   pub right : Right s buf

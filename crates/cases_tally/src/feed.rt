@@ -1,8 +1,8 @@
 // A stream fed record by record, each cut into chunks, and the text at its end.
-use tallying::Stream;
-use tallying::begin;
+use following::Stream;
+use following::begin;
+use following::follow;
 use tallying::finish;
-use tallying::follow;
 use transcript::say;
 ghost use mathlib.Core.Path.{_≡_};
 ghost use Prim.Native.Nat.{_+_, _≤_, _<_};

@@ -11,7 +11,7 @@ use case_lines::next_call;
 use feed::end;
 use feed::put;
 use feed::start;
-use tallying::Stream;
+use following::Stream;
 use transcript::say;
 ghost use Prim.Native.Nat.{_≤_};
 ghost use Rattle.cases_tally.specs.Feed.{Ready};

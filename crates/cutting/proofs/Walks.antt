@@ -8,6 +8,7 @@ use native.Mathlib.Omega.{arith}
 use lib.ListN.{length, length-append}
 use lib.Seq.{append-snoc}
 use Rattle.numbers.specs.Laws.{Bytes}
+use Rattle.numbers.proofs.Laws.{bytes-append}
 use Rattle.cutting.specs.Walk.{Heard, Kept, Turned, Machine, Walked, Waits, Stops, pushed, took, walked}
 use Rattle.cutting.specs.Walk.{joined, records, keptOf, accepted, Run, Halted, heardAll, outcome, left, behind}
 use Rattle.cutting.specs.Laws.{WalkedAppend, WalkedStops, WalkedBehind, WalkedRecords, WalkedBytes, TurnedAt}
@@ -133,11 +134,6 @@ unfolding walked
 walked-again S F m s t xs part e = rw e at (again S F m (Waits s []) xs refl)
 
 -- ---- walks that are alike
-
-pub bytes-append : (xs ys : List ℕ) → Bytes xs → Bytes ys → Bytes (xs ++ ys)
-bytes-append [] ys h g k = g k
-bytes-append (x ∷ xs) ys h g zero = h 0
-bytes-append (x ∷ xs) ys h g (suc k) = bytes-append xs ys (λ i. h (suc i)) g k
 
 bytes-snoc : (xs : List ℕ) (b : ℕ) → Bytes xs → b < 256 → Bytes (xs ++ b ∷ [])
 bytes-snoc xs b h g = bytes-append xs (b ∷ []) h one

@@ -1,14 +1,17 @@
 // Each line of standard input: read, played, said. The longest call delivers 65,539 bytes; a longer line is no call,
 // and is passed over.
+use crate::help::say_help;
 use crate::house_calls::house_call;
+use asking::Asked;
 use house::House;
 use input::Found;
 use input::next_line;
 use line_calls::line_call;
-use requests::Asked;
+use requests::Request;
 use requests::read_request;
 use transcript::say;
 ghost use mathlib.Core.Path.{_≡_};
+ghost use Prim.Native.Nat.{_≤_};
 ghost use lib.ListN.{length};
 
 const LINE: usize = 140000;
@@ -17,11 +20,6 @@ fn line_buffer() -> [u8; LINE]
     ensures { λ r. ⌜ 140000 ≡ length r ⌝ }
 {
     [0; LINE]
-}
-
-fn fresh_call() -> House {
-    say(b"0\n");
-    House::fresh()
 }
 
 fn copied(line: &[u8]) {
@@ -34,6 +32,7 @@ fn answer_alone(asked: Asked, line: &[u8], bytes: &[u8]) {
     match asked {
         Asked::Nothing => say(b"\n"),
         Asked::Comment => copied(line),
+        Asked::Help => say_help(),
         Asked::Line(way, order, at, long) => line_call(way, order, at, long, bytes),
         _ => say(b"?\n"),
     }
@@ -41,7 +40,10 @@ fn answer_alone(asked: Asked, line: &[u8], bytes: &[u8]) {
 
 fn answer_asked(house: House, asked: Asked, line: &[u8], bytes: &[u8]) -> House {
     match asked {
-        Asked::Fresh => fresh_call(),
+        Asked::Fresh => {
+            say(b"0\n");
+            House::fresh()
+        }
         Asked::Play(call) => house_call(house, call, bytes),
         _ => {
             answer_alone(asked, line, bytes);
@@ -50,31 +52,33 @@ fn answer_asked(house: House, asked: Asked, line: &[u8], bytes: &[u8]) -> House 
     }
 }
 
+// A line that was passed over is no call.
+fn request_of(found: Found, line: &mut [u8]) -> Request
+    ensures { λ r. ⌜ r .bytes ≤ length (now (line .exit)) ⌝ }
+{
+    match found {
+        Found::Line => read_request(line),
+        _ => Request {
+            asked: Asked::NoCall,
+            bytes: 0,
+        },
+    }
+}
+
 // One line, without its LF. The bytes that it hands over stand at its start then.
-fn answer_line(house: House, line: &mut [u8]) -> House {
-    let read = read_request(line);
+fn answer_line(house: House, found: Found, line: &mut [u8]) -> House {
+    let read = request_of(found, line);
     let n = read.bytes;
     let asked = read.asked;
     let all = &line[..];
     answer_asked(house, asked, all, &all[0..n])
 }
 
-fn answer_found(house: House, found: Found, line: &mut [u8]) -> House {
+fn has_ended(found: Found) -> bool {
     match found {
-        Found::Line => answer_line(house, line),
-        Found::TooLong => {
-            say(b"?\n");
-            house
-        }
-        Found::End => house,
-    }
-}
-
-fn goes_on(found: Found) -> bool {
-    match found {
-        Found::Line => true,
-        Found::TooLong => true,
-        Found::End => false,
+        Found::Line => false,
+        Found::TooLong => false,
+        Found::End => true,
     }
 }
 
@@ -86,16 +90,17 @@ pub(crate) fn answer_all() {
     let line: &mut [u8] = &mut space;
     let mut house = House::fresh();
     let mut input = input::begin();
-    let mut going = true;
     let mut turns = u64::MAX;
-    while turns > 0 && going {
+    while turns > 0 {
         let next = next_line(input, chunk, line);
         let found = next.found;
         let long = next.long;
         let behind = next.input;
-        house = answer_found(house, found, &mut line[0..long]);
+        if has_ended(found) {
+            return;
+        }
+        house = answer_line(house, found, &mut line[0..long]);
         input = behind;
-        going = goes_on(found);
         turns -= 1;
     }
 }

@@ -1,9 +1,9 @@
 // A call on the house, played, and what is written of what came back. A report is over a slice of LENGTH rows; no
 // report has more than 1,024, so a longer one is as good as one of 1,024.
+use answers::Answer;
 use asked_calls::Call;
 use house::House;
 use house::Row;
-use plays::Played;
 use plays::play;
 use transcript::say;
 use transcript::say_answer;
@@ -42,30 +42,30 @@ fn say_figures(free: u32, promised: u32) {
 }
 
 // What a call that is done found, if it asked for something.
-fn say_found(call: Call, done: Played)
-    requires { ⌜ done .count ≤ 1024 ⌝ }
+fn say_found(call: Call, free: u32, promised: u32, count: usize, rows: [Row; 1024])
+    requires { ⌜ count ≤ 1024 ⌝ }
 {
-    let rows = done.rows;
     match call {
-        Call::Report(_, _) => say_rows(rows, done.count),
-        Call::Figures => say_figures(done.free, done.promised),
+        Call::Report(_, _) => say_rows(rows, count),
+        Call::Figures => say_figures(free, promised),
         _ => say(b""),
     }
 }
 
-fn played(house: House, call: Call, rec: &[u8]) -> Played
-    ensures { λ r. ⌜ r .count ≤ 1024 ⌝ }
+fn say_played(call: Call, answer: Answer, free: u32, promised: u32, count: usize, rows: [Row; 1024])
+    requires { ⌜ count ≤ 1024 ⌝ }
 {
-    play(house, call, rec)
+    say_answer(answer);
+    if answers::number(answer) == 0 {
+        say_found(call, free, promised, count, rows);
+    }
+    say(b"\n");
 }
 
 pub(crate) fn house_call(house: House, call: Call, rec: &[u8]) -> House {
-    let done = played(house, call, rec);
+    let done = play(house, call, rec);
     let answer = done.answer;
-    say_answer(answer);
-    if answers::number(answer) == 0 {
-        say_found(call, done);
-    }
-    say(b"\n");
+    let rows = done.rows;
+    say_played(call, answer, done.free, done.promised, done.count, rows);
     done.house
 }

@@ -7,6 +7,7 @@
 //     report SLOT LENGTH    N, or: 0 COUNT H/S/B=C H/S/B=C ..
 //     close SLOT            N
 //     figures               N, or: 0 FREE PROMISED
+//     help                  these calls, in lines that begin with `#`
 //
 // And "Count lines": a record to its line, a line to its record, at the offset AT of a lent output of LENGTH bytes,
 // each `aa` before the call. It is shown whole afterwards.
@@ -14,11 +15,12 @@
 //     write ORDER AT LENGTH HEX    N OUT, or: 0 BYTES OUT
 //     read ORDER AT LENGTH HEX     N OUT, or: 0 BYTES OUT
 //
-// One space stands between words. Hex is lower case, `-` is no bytes; numbers are decimal, one to ten digits, AT one to
-// twenty. A line that begins with `#` is copied, an empty one stays empty, and any other line that is no call answers
-// `?`, one with a LENGTH above 4,096 among them. What a line asks for is the crate requests' to say; here it is played,
-// and what came back is written.
+// One space stands between words. Hex is lower case, `-` is no bytes; numbers are decimal, one digit or more, however
+// many. A line that begins with `#` is copied, an empty one stays empty, and any other line that is no call answers `?`,
+// `write` and `read` with a LENGTH above 4,096 among them. What a line asks for is the crate requests' to say; here it is
+// played, and what came back is written.
 mod answering;
+mod help;
 mod house_calls;
 
 fn main() {

@@ -48,7 +48,7 @@ module _ (body : List ℕ) (at : ℕ) where
   none-left h = List·getD-eq-default body 0 {n = at} h
 
 module _ (order : Order) where
-  ends-nil : (fs : List FieldType) → endsAmong order fs [] ≡ true
+  pub ends-nil : (fs : List FieldType) → endsAmong order fs [] ≡ true
   ends-nil [] = refl
   ends-nil (f ∷ fs) = refl
 
@@ -186,7 +186,7 @@ begun-whole order (f ∷ fs) (suc j) (b ∷ bs) e h g =
 
 -- ---- fields of fixed sizes
 
-counted-none : (order : Order) (f : FieldType) (bytes : List ℕ) → fixed f ≡ true → countedSize order f bytes ≡ 0
+pub counted-none : (order : Order) (f : FieldType) (bytes : List ℕ) → fixed f ≡ true → countedSize order f bytes ≡ 0
 counted-none order (U width) bytes e = refl
 counted-none order (I width) bytes e = refl
 counted-none order C1 bytes e = refl

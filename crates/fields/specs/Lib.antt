@@ -1,3 +1,4 @@
 pub mod Fields
 pub mod Tables
 pub mod Laws
+pub mod Sizes

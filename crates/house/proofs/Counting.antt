@@ -77,7 +77,7 @@ agree-alike slot t h g a p =
     }
 
 -- every slot of a fresh house is closed, and so is what stands past the last
-fresh-at : (P : Slot → Type 0) (n i : ℕ) → P closedSlot → P noSlot → P (getD (replicate n closedSlot) i noSlot)
+pub fresh-at : (P : Slot → Type 0) (n i : ℕ) → P closedSlot → P noSlot → P (getD (replicate n closedSlot) i noSlot)
 fresh-at P zero i c n = n
 fresh-at P (suc m) zero c n = c
 fresh-at P (suc m) (suc i) c n = fresh-at P m i c n
@@ -393,13 +393,13 @@ module _ (calls : List Call) (sent : AllSent calls) where
       λ j low. let on : k + suc j ≡ suc k + j = omega arith in rw on at (f (suc j) (omega arith)) in
       rw (owed-over (suc k) ss rest, told-owed k, here)
 
-  free-told : freeBy (history fresh calls) ≡ free now
+  pub free-told : freeBy (history fresh calls) ≡ free now
   free-told =
       let all = held-all (takenOf (now .slots)) (keysOf now) (countsOf now) (told-right now now-sound) in
       let long = keys-long now 0 (reached-shaped calls sent) now-sound in
       omega (arith, held-over slotCount 0, all, long)
 
-  promised-told : promisedBy (history fresh calls) ≡ promised now
+  pub promised-told : promisedBy (history fresh calls) ≡ promised now
   promised-told =
       let many = reached-shaped calls sent .slots in
       let all = owed-over 0 (now .slots) (λ j low. rw (zero-add j)) in

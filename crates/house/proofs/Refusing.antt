@@ -1,13 +1,12 @@
 -- Demand 1 and the first half of demand 2, proved (specs/Demands.antt): a refusal changes nothing, its number is the
 -- first check that fails, and a record is accepted exactly if none does.
 -- Assumes nothing.
-use mathlib.Core.Path.{_≡_, refl, ap, sym, _∙_}
+use mathlib.Core.Path.{_≡_, refl, ap, _∙_}
 use mathlib.Core.Bool.{Bool, true, false, _&&_, false≢true}
-use mathlib.Core.List.{List, [], _∷_, _++_, append-assoc}
-use Prim.Native.Nat.{ℕ, zero, suc, _≤_, _<_}
-use native.Mathlib.Omega.{arith}
+use mathlib.Core.List.{[], _∷_}
+use Prim.Native.Nat.{ℕ}
 use lib.Dec.{ltb, eqb}
-use lib.ListN.{length, drop, set, length-append}
+use lib.ListN.{length}
 use Rattle.prelude.specs.Checks.{_else_, numberBy}
 use Rattle.prelude.proofs.Checks.{checked-by, checked-number}
 use Rattle.answers.specs.declared.Answer.{Answer}
@@ -21,7 +20,6 @@ use Rattle.session.specs.Verdicts.{verdictNumber, byItself}
 use Rattle.judging.specs.Judge.{verdictOn}
 use Rattle.judging.proofs.Laws.{judged-refusal}
 use Rattle.house.specs.declared.House.{House}
-use Rattle.house.specs.declared.Row.{Row}
 use Rattle.house.specs.declared.Reported.{Reported}
 use Rattle.house.specs.declared.Figures.{Figures}
 use Rattle.house.specs.declared.Answered.{Answered}
@@ -29,12 +27,12 @@ use Rattle.house.specs.House.{keysOf, free, promised, sound}
 use Rattle.house.specs.Deliver.{granted, rowTaken, resultedIf, settled, delivered}
 use Rattle.house.specs.Calls.{slotAt, openSlot, closeSlot, roomOf, coreOf, settledTo, withOutcome, deliver}
 use Rattle.house.specs.Calls.{refusal, openChecks, slotChecks, noFigures, figuresOf}
-use Rattle.house.specs.Report.{rowAt, unreported, reportChecks, reported, listed, filled}
+use Rattle.house.specs.Report.{rowAt, unreported, reportChecks, reported}
 use Rattle.house.specs.History.{Open, Deliver, Report, Close, Figured}
 use Rattle.house.specs.Demands.{RefusedKeeps, RefusedWrites, ReportWrites, roomFor, Accepted}
 use Rattle.house.specs.Demands.{OpenNumber, DeliverNumber, ReportNumber, CloseNumber, FiguresNumber}
 use Rattle.house.proofs.Calling.{same-slot}
-use Rattle.house.proofs.Reporting.{few}
+use Rattle.house.proofs.Reporting.{few, filled-listed}
 
 -- ---- a refusal changes nothing
 
@@ -75,32 +73,6 @@ reported-none h slot long =
 
 pub refused-writes : RefusedWrites
 refused-writes h slot out refused = rw (reported-none h slot (length out) refused)
-
--- so many elements, then the rest
-listed-length : (row : ℕ → Row) (n : ℕ) → length (listed row n) ≡ n
-listed-length row zero = refl
-listed-length row (suc n) =
-    length-append (listed row n) (row n ∷ []) ∙ omega (arith, listed-length row n)
-
-set-past : (xs ys : List Row) (n : ℕ) (v : Row) → length xs ≡ n → set (xs ++ ys) n v ≡ xs ++ set ys 0 v
-set-past [] ys zero v l = refl
-set-past [] ys (suc n) v l = absurd (omega arith)
-set-past (x ∷ xs) ys zero v l = absurd (omega arith)
-set-past (x ∷ xs) ys (suc n) v l = ap (λ (zs : List Row). x ∷ zs) (set-past xs ys n v (omega arith))
-
-set-drop : (out : List Row) (n : ℕ) (v : Row) → n < length out → set (drop n out) 0 v ≡ v ∷ drop (suc n) out
-set-drop [] n v h = absurd (omega arith)
-set-drop (x ∷ out) zero v h = refl
-set-drop (x ∷ out) (suc n) v h = set-drop out n v (omega arith)
-
-filled-listed : (row : ℕ → Row) (n : ℕ) (out : List Row) → n ≤ length out
-    → filled row n out ≡ listed row n ++ drop n out
-filled-listed row zero out h = refl
-filled-listed row (suc n) out h =
-    ap (λ (xs : List Row). set xs n (row n)) (filled-listed row n out (omega (arith, h)))
-    ∙ set-past (listed row n) (drop n out) n (row n) (listed-length row n)
-    ∙ ap (λ (ys : List Row). listed row n ++ ys) (set-drop out n (row n) (omega (arith, h)))
-    ∙ sym (append-assoc (listed row n) (row n ∷ []) (drop (suc n) out))
 
 pub report-writes : ReportWrites
 report-writes h slot out =

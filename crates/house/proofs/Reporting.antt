@@ -187,6 +187,21 @@ rows-few h slot = go (all (tests (slotChecks h slot))) refl
         let short : length (keysOf h) ≡ min (h .used) (length (h .keys)) = length-take (h .used) (h .keys) in
         omega (arith, told-within h (is-open h slot e .fine), held-within slot (keysOf h), short)
 
+-- ---- rows listed, and a slice filled with them
+
+pub length-listed : (row : ℕ → Row) (n : ℕ) → length (listed row n) ≡ n
+length-listed row zero = refl
+length-listed row (suc n) = rw (length-append, length-listed row n) (omega arith)
+
+-- a slice filled is the rows listed, and behind them what stood there
+pub filled-listed : (row : ℕ → Row) (n : ℕ) (old : List Row) → n ≤ length old
+    → filled row n old ≡ listed row n ++ drop n old
+filled-listed row zero old h = refl
+filled-listed row (suc n) old h =
+    rw (filled-listed row n old (omega arith), drop-cons old n (row n) (omega arith))
+    (set-at (listed row n) _ (drop (suc n) old) (row n) n (length-listed row n)
+    ∙ sym (append-snoc (listed row n) (row n) (drop (suc n) old)))
+
 -- ---- a slice filled
 
 pub length-filled : (row : ℕ → Row) (n : ℕ) (old : List Row) → length (filled row n old) ≡ length old
@@ -224,18 +239,3 @@ module _ (h : House) (slot long : ℕ) where
   unfolding listing
   listing-at i d low =
       filled-at (rowAt h slot) (reported h slot long .rows) noRows i d (omega (arith, listing-few)) low
-
--- ---- rows listed, and a slice filled with them
-
-pub length-listed : (row : ℕ → Row) (n : ℕ) → length (listed row n) ≡ n
-length-listed row zero = refl
-length-listed row (suc n) = rw (length-append, length-listed row n) (omega arith)
-
--- a slice filled is the rows listed, and behind them what stood there
-pub filled-listed : (row : ℕ → Row) (n : ℕ) (old : List Row) → n ≤ length old
-    → filled row n old ≡ listed row n ++ drop n old
-filled-listed row zero old h = refl
-filled-listed row (suc n) old h =
-    rw (filled-listed row n old (omega arith), drop-cons old n (row n) (omega arith))
-    (set-at (listed row n) _ (drop (suc n) old) (row n) n (length-listed row n)
-    ∙ sym (append-snoc (listed row n) (row n) (drop (suc n) old)))

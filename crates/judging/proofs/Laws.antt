@@ -2,20 +2,20 @@
 -- cases` and later_records' `said-cases` say so once, and each law is shown of the six.
 -- Assumes nothing.
 use mathlib.Core.Path.{_≡_, refl, ap, sym, subst, _∙_}
-use mathlib.Core.Bool.{Bool, true, false, cond, _&&_}
+use mathlib.Core.Bool.{Bool, true, false, cond}
 use mathlib.Core.List.{List}
 use Prim.Native.Nat.{ℕ, _+_, _-_, _≤_, _<_}
 use native.Mathlib.Numerals.{add-one}
 use native.Mathlib.Omega.{arith}
 use lib.ListN.{length, take}
-use lib.Seq.{getD-drop, length-take-le}
+use lib.Seq.{length-take-le}
 use Rattle.answers.specs.declared.Answer.{Answer}
 use Rattle.answers.specs.declared.Answer.the-variants as answer
 use Rattle.numbers.specs.declared.Order.{Order}
-use Rattle.numbers.specs.Laws.{Bytes}
+use Rattle.numbers.proofs.Laws.{bytes-drop}
 use Rattle.kinds.specs.declared.Kind.{Kind}
 use Rattle.kinds.specs.Kinds.{kindOf}
-use Rattle.frames.specs.Frames.{recTyp, recSub, body}
+use Rattle.frames.specs.Frames.{header, recTyp, recSub, body}
 use Rattle.bodies.specs.declared.Record.{Record}
 use Rattle.bodies.specs.declared.Record.the-variants as said
 use Rattle.bodies.specs.declared.Reading.the-variants.{Fits}
@@ -27,7 +27,7 @@ use Rattle.order.specs.declared.Step.the-variants.{To}
 use Rattle.order.specs.Order.{goes}
 use Rattle.order.specs.Laws.{before}
 use Rattle.order.proofs.Laws.{never-back, never-start}
-use Rattle.rising.specs.Rising.{rank, held, insertAt, removeAt}
+use Rattle.rising.specs.Rising.{rank, held, inserted, removed, insertAt, removeAt}
 use Rattle.rising.proofs.Laws.{rank-within, held-rank, rising-insert, rising-remove, below-insert, below-remove}
 use Rattle.rising.proofs.Laws.{insert-taken, insert-length, remove-taken, remove-length}
 use Rattle.session.specs.declared.Session.{Session}
@@ -122,16 +122,13 @@ judged-few s rec low =
 
 -- ---- the key of a row that is asked for
 
-body-bytes : (rec : List ℕ) → Bytes rec → Bytes (body rec)
-body-bytes rec h k = rw (getD-drop 4 rec k 0) (h (4 + k))
-
 pub judged-key : JudgedKey
 judged-key s rec bytes =
     judge-cases KeyRight (λ a own. tt) (s .standing) (partsOf s) rec (λ order h is. tt)
     (λ k q r is h f.
     said-cases KeyRight (λ a own. tt) (at (s .standing) q) (partsOf s) r (λ t. tt) (λ p t. tt) (λ p t new few. tt)
     (λ p t there few.
-    let told = said-right (s .standing .order) k (body rec) r (body-bytes rec bytes) f in
+    let told = said-right (s .standing .order) k (body rec) r (bytes-drop header rec bytes) f in
     let right : Right (said.Prr p) = subst Right t told in
     (omega (arith, right .0, right .1, right .2), omega (arith, right .0, right .1, right .2)))
     (λ t done. tt))
@@ -169,19 +166,34 @@ module _ (s : Session) (long : length (s .parts) ≡ mostOpen) (e : sound s ≡ 
   right : partsRight (st .opened) (s .parts) ≡ true
   right = parts-right (st .opened) (s .parts) (sound-parts-told s e)
 
+  -- the open parts after one more, and after one less
+  pub parts-opened : (part : ℕ) → st .opened < mostOpen
+      → take (st .opened + 1) (insertAt (s .parts) (st .opened) (rank part (partsOf s)) part)
+      ≡ inserted (partsOf s) (rank part (partsOf s)) part
+  parts-opened part few =
+      rw (add-one (st .opened))
+      (insert-taken (s .parts) (st .opened) (rank part (partsOf s)) part
+      (omega (arith, rank-within part (partsOf s), opened-long s long e)) (omega arith))
+
+  pub parts-closed : (part : ℕ) → held part (partsOf s) ≡ true
+      → take (st .opened - 1) (removeAt (s .parts) (st .opened) (rank part (partsOf s)) 1)
+      ≡ removed (partsOf s) (rank part (partsOf s)) 1
+  parts-closed part there =
+      let p = sound-parts-told s e in
+      let inside = held-rank part (partsOf s) (p .rises) there .0 in
+      remove-taken (s .parts) (st .opened) (rank part (partsOf s)) 1 (omega (arith, inside, opened-long s long e))
+      (omega (arith, p .few))
+
   opened-right : (part : ℕ) → part < pastParts → held part (partsOf s) ≡ false → st .opened < mostOpen
       → partsRight (st .opened + 1) (insertAt (s .parts) (st .opened) (rank part (partsOf s)) part) ≡ true
   opened-right part low new few =
       let p = sound-parts-told s e in
       let at = rank part (partsOf s) in
-      let within : at ≤ st .opened = omega (arith, rank-within part (partsOf s), opened-long s long e) in
-      let now = insert-taken (s .parts) (st .opened) at part within (omega arith) in
-      let cells = insertAt (s .parts) (st .opened) at part in
-      parts-right (st .opened + 1) cells
+      parts-right (st .opened + 1) (insertAt (s .parts) (st .opened) at part)
       (record {
         few = omega arith;
-        rises = rw (add-one (st .opened), now) (rising-insert part (partsOf s) (p .rises) new);
-        below = rw (add-one (st .opened), now) (below-insert pastParts (partsOf s) at part (p .below) low);
+        rises = rw (parts-opened part few) (rising-insert part (partsOf s) (p .rises) new);
+        below = rw (parts-opened part few) (below-insert pastParts (partsOf s) at part (p .below) low);
       })
 
   closed-right : (part : ℕ) → held part (partsOf s) ≡ true
@@ -189,14 +201,11 @@ module _ (s : Session) (long : length (s .parts) ≡ mostOpen) (e : sound s ≡ 
   closed-right part there =
       let p = sound-parts-told s e in
       let at = rank part (partsOf s) in
-      let inside = held-rank part (partsOf s) (p .rises) there .0 in
-      let within : at + 1 ≤ st .opened = omega (arith, inside, opened-long s long e) in
-      let now = remove-taken (s .parts) (st .opened) at 1 within (omega (arith, p .few)) in
       parts-right (st .opened - 1) (removeAt (s .parts) (st .opened) at 1)
       (record {
         few = omega (arith, p .few);
-        rises = rw now (rising-remove (partsOf s) at 1 (p .rises));
-        below = rw now (below-remove pastParts (partsOf s) at 1 (p .below));
+        rises = rw (parts-closed part there) (rising-remove (partsOf s) at 1 (p .rises));
+        below = rw (parts-closed part there) (below-remove pastParts (partsOf s) at 1 (p .below));
       })
 
 pub judged-sound : JudgedSound
@@ -211,7 +220,7 @@ judged-sound s rec bytes long e =
     let place = s .standing .place in
     let next = at (s .standing) q in
     let b = body rec in
-    let said-part : Right r = said-right order k b r (body-bytes rec bytes) fits in
+    let said-part : Right r = said-right order k b r (bytes-drop header rec bytes) fits in
     said-cases Sound (λ a own. e) next (partsOf s) r
     (λ quieted.
     sound-right (after s (Taken (stands next))) (right s long e)

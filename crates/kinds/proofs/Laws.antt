@@ -1,4 +1,4 @@
--- The statement of specs/Laws.antt, proved by one computed test over the table; and how the searches of the code go
+-- The statements of specs/Laws.antt, proved by one computed test each over the table; and how the searches of the code go
 -- on.
 -- Assumes nothing.
 use mathlib.Core.Path.{_≡_, refl}
@@ -15,8 +15,8 @@ use Rattle.prelude.proofs.Table.{at-each}
 use Rattle.kinds.specs.declared.Pair.{Pair}
 use Rattle.kinds.specs.declared.Kind.{Kind}
 use Rattle.kinds.specs.declared.Kind.the-variants.{Custom, Unknown}
-use Rattle.kinds.specs.Kinds.{pairs, noPair, named, hasType, beyondTable, kindOf}
-use Rattle.kinds.specs.Laws.{EachPairItsKind}
+use Rattle.kinds.specs.Kinds.{pairs, noPair, named, hasType, custom, beyondTable, kindOf}
+use Rattle.kinds.specs.Laws.{EachPairItsKind, PairsCounted, PairsNotCustom}
 
 -- ---- the table
 
@@ -27,6 +27,17 @@ all-named = refl
 
 pub each-pair-its-kind : EachPairItsKind
 each-pair-its-kind = at-each Pair Kind (λ p. kindOf (p .0) (p .1)) (λ p. p .2) pairs noPair all-named
+
+pub pairs-counted : PairsCounted
+unfolding hasType
+pairs-counted = (refl, refl)
+
+none-custom : map (λ (p : Pair). custom (p .0) (p .1)) pairs ≡ map (λ (p : Pair). false) pairs
+unfolding hasType
+none-custom = refl
+
+pub pairs-not-custom : PairsNotCustom
+pairs-not-custom = at-each Pair Bool (λ p. custom (p .0) (p .1)) (λ p. false) pairs noPair none-custom
 
 -- ---- a search through any table
 

@@ -173,9 +173,10 @@ quiet-none (said.Prr p) h = absurd (false≢true h)
 
 -- ---- the order of checks, as a list
 
--- a step moves the place alone, which no kind's own checks look at
 own-number : (st : Standing) (parts : List ℕ) (r : Record)
-    → verdictNumber (judgeSaid st parts r) ≡ numberBy (ownChecks st parts r)
+    → verdictNumber (judgeSaid st parts r)
+    ≡ numberBy
+    (ownChecks (λ (head site : ℕ). held (partOf head site) parts) (st .opened) (st .results) (st .pcr) r)
 unfolding judgePir judgePrr judgeMrr
 own-number st parts (said.Pir p) =
     check-first verdictNumber _ (not (held (partOf (p .head) (p .site)) parts)) _ 9 _ refl (λ a.
@@ -191,17 +192,7 @@ own-number st parts said.Mir = refl
 own-number st parts (said.Bin b) = refl
 own-number st parts said.Unread = refl
 
-own-placed : (st : Standing) (q : Place) (parts : List ℕ) (r : Record)
-    → numberBy (ownChecks (at st q) parts r) ≡ numberBy (ownChecks st parts r)
-own-placed st q parts (said.Pir p) = refl
-own-placed st q parts (said.Prr p) = refl
-own-placed st q parts said.Mrr = refl
-own-placed st q parts (said.Pcr p) = refl
-own-placed st q parts (said.Far f) = refl
-own-placed st q parts said.Mir = refl
-own-placed st q parts (said.Bin b) = refl
-own-placed st q parts said.Unread = refl
-
+-- a step moves the place alone, which no kind's own checks look at
 pub later-number : LaterNumber
 unfolding judgeLater
 later-number st parts rec =
@@ -212,5 +203,4 @@ later-number st parts rec =
     check-first verdictNumber _ (known kind) _ 6 _ refl (λ b.
     check-first verdictNumber _ (inPlace step) _ 8 _ refl (λ c.
     check-first verdictNumber _ (fitting reading) _ 7 _ refl (λ d.
-    own-number (at st (placeAfter step)) parts (saidOf reading)
-    ∙ own-placed st (placeAfter step) parts (saidOf reading)))))
+    own-number (at st (placeAfter step)) parts (saidOf reading)))))

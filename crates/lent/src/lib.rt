@@ -108,7 +108,8 @@ fn take_row(
     }
 }
 
-// A part result: counted and settled if it is granted, else refused for room with nothing changed.
+// A part result: counted and settled if it is granted, else refused for room. Its part closes with its row alone: where
+// there is none, all stands as it stood.
 fn result_lent(
     keys: &mut [u64],
     counts: &mut [u64],
@@ -127,6 +128,7 @@ fn result_lent(
         × (now (guesses .exit) ≡ noted (room .slot) (take used (now (keys .entry))) key (now (guesses .entry))) ⌝ }
 {
     let slot = room.slot;
+    let kept = Change::Stands(st);
     match take_row(
         keys,
         counts,
@@ -144,11 +146,14 @@ fn result_lent(
                 standing,
             }
         }
-        Granting::NoRoom => Delivered {
-            answer: Answer::NoRoom,
-            used,
-            standing: st,
-        },
+        Granting::NoRoom => {
+            let standing = settle_parts(st, parts, kept);
+            Delivered {
+                answer: Answer::NoRoom,
+                used,
+                standing,
+            }
+        }
     }
 }
 

@@ -6,12 +6,10 @@ use mathlib.Core.List.{List, [], _∷_, _++_, map}
 use Prim.Native.Nat.{ℕ, zero, suc, _+_, _-_, _*_, _/_, _%_, _≤_, _<_}
 use native.Mathlib.Numerals.{add-one}
 use native.Mathlib.Omega.{arith}
-use borrow.Author.Tests.{eq-eqb, ne-eqb, ltb-true}
-use lib.Dec.{eqb, ltb}
+use borrow.Author.Tests.{eq-eqb, ne-eqb}
+use lib.Dec.{eqb}
 use lib.ListN.{length, getD, take, drop, length-append, length-take, length-drop, drop-of-length-le}
 use lib.Seq.{drop-cons, getD-take, length-take-le, take-suc, take-all}
-use Rattle.prelude.specs.Each.{each}
-use Rattle.prelude.proofs.Each.{each-at}
 use Rattle.numbers.specs.declared.Order.{Order}
 use Rattle.numbers.specs.Numbers.{ordered, written, over}
 use Rattle.numbers.proofs.Laws.{length-written}
@@ -29,14 +27,15 @@ use Rattle.line_layouts.specs.declared.Layout.{Layout}
 use Rattle.line_layouts.specs.declared.Layout.the-variants as layout
 use Rattle.line_layouts.specs.declared.Form.{Form}
 use Rattle.line_layouts.specs.declared.Form.the-variants.{U1, U2, U4, C1, Cn}
-use Rattle.line_layouts.specs.Columns.{columns, noColumn, width, order}
+use Rattle.line_layouts.specs.Columns.{columns, noColumn, width, order, back}
 use Rattle.line_layouts.specs.Entries.{Entry, Missing, Number, Text, named, entryOf, entriesOf}
 use Rattle.line_layouts.specs.Entries.{meaningOf, noField}
 use Rattle.line_layouts.specs.Entries.{isMissing, Within, kept, present}
 use Rattle.line_layouts.specs.Layouts.{entryText, isName, countedName, counted, mark, marked, isLast, laid}
 use Rattle.line_layouts.specs.Layouts.{inOrder, barIn, columnOf, nthBytes, entriesIn, restOf, Sized, headOf}
 use Rattle.line_layouts.specs.Layouts.{laidOut}
-use Rattle.line_layouts.proofs.Arranging.{length-arranged, arranged-in}
+use Rattle.line_layouts.proofs.Arranging.{length-arranged, arranged-in, below-at}
+use Rattle.line_layouts.proofs.Tables.{turned}
 
 -- ---- the low bytes of a number
 
@@ -117,24 +116,17 @@ is-last (x ∷ l) j n e h = sym (ne-eqb (j + 1) n (λ (is : j + 1 ≡ n). absurd
 
 -- ---- the order of a layout
 
-length-order : (tag : Tag) → length (order tag) ≡ length (columns tag)
-length-order Pcr = refl
-length-order Hbr = refl
-length-order Sbr = refl
-
-order-inside : (tag : Tag) → each (λ (i : ℕ). ltb i (length (columns tag))) (order tag) ≡ true
-order-inside Pcr = refl
-order-inside Hbr = refl
-order-inside Sbr = refl
-
 pub column-inside : (layout : Layout) (tag : Tag) (j : ℕ) → j < length (columns tag)
     → columnOf layout tag j < length (columns tag)
 unfolding columnOf
 column-inside (layout.Text sep) tag j h =
-    ltb-true (getD (order tag) j 0) (length (columns tag))
-    (each-at ℕ (λ (i : ℕ). ltb i (length (columns tag))) (order tag) 0 j (order-inside tag)
-    (omega (arith, length-order tag)))
+    below-at (length (columns tag)) (order tag) j (turned tag .order-in) (omega (arith, turned tag .order-all))
 column-inside (layout.Record ends) tag j h = h
+
+-- the field of a line that column j is
+pub back-inside : (tag : Tag) (j : ℕ) → j < length (columns tag) → getD (back tag) j 0 < length (columns tag)
+back-inside tag j h =
+    below-at (length (columns tag)) (back tag) j (turned tag .back-in) (omega (arith, turned tag .back-all))
 
 pub bar-few : (layout : Layout) (tag : Tag) → barIn layout tag ≤ length (columns tag)
 bar-few (layout.Text sep) tag = omega arith
@@ -145,13 +137,13 @@ bar-few (layout.Record ends) Sbr = omega arith
 module _ (A : Type 0) (none : A) where
   length-in : (layout : Layout) (tag : Tag) (xs : List A) → length xs ≡ length (columns tag)
       → length (inOrder layout tag none xs) ≡ length (columns tag)
-  length-in (layout.Text sep) tag xs e = length-arranged A none (order tag) xs ∙ length-order tag
+  length-in (layout.Text sep) tag xs e = length-arranged A none (order tag) xs ∙ turned tag .order-all
   length-in (layout.Record ends) tag xs e = e
 
   in-at : (layout : Layout) (tag : Tag) (xs : List A) (j : ℕ) → j < length (columns tag)
       → getD (inOrder layout tag none xs) j none ≡ getD xs (columnOf layout tag j) none
   unfolding columnOf
-  in-at (layout.Text sep) tag xs j h = arranged-in A none (order tag) xs j (omega (arith, length-order tag))
+  in-at (layout.Text sep) tag xs j h = arranged-in A none (order tag) xs j (omega (arith, turned tag .order-all))
   in-at (layout.Record ends) tag xs j h = refl
 
 -- ---- the last present one

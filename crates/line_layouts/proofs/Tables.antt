@@ -1,13 +1,14 @@
--- Each table is sound, by computation; a separator is none of the bytes that fields are made of.
+-- Each table is sound and each order has its way back, by computation; a separator is none of the bytes that fields are made of.
 -- Assumes nothing.
 use mathlib.Core.Path.{_≡_, refl, sym}
-use mathlib.Core.Bool.{Bool, true, false, not, _&&_, _||_}
+use mathlib.Core.Bool.{true, false, not, _&&_, _||_}
 use mathlib.Core.List.{List, _∷_}
 use Prim.Native.Nat.{ℕ, _-_, _≤_, _<_, _^_}
 use Prim.Native.Char.{code}
 use native.Mathlib.Omega.{arith}
 use borrow.Author.Tests.{leb-true, leb-false, eqb-true, not-true}
 use lib.Dec.{eqb, leb}
+use lib.ListN.{length}
 use Rattle.prelude.proofs.Never.{false-true}
 use Rattle.prelude.proofs.Both.{both-left, both-right}
 use Rattle.digits.specs.Digits.{isDigit}
@@ -17,7 +18,8 @@ use Rattle.line_layouts.specs.declared.Form.{Form}
 use Rattle.line_layouts.specs.declared.Form.the-variants.{U1, U2, U4, C1, Cn}
 use Rattle.line_layouts.specs.declared.Flag.{Flag}
 use Rattle.line_layouts.specs.declared.Column.{Column}
-use Rattle.line_layouts.specs.Columns.{separator, columns, bar}
+use Rattle.line_layouts.specs.Arranging.{Turned}
+use Rattle.line_layouts.specs.Columns.{separator, columns, bar, order, back}
 use Rattle.line_layouts.specs.Layouts.{missingValue, isName}
 use Rattle.line_layouts.specs.Names.{separates}
 use Rattle.line_layouts.specs.Fitting.{isNumber, hasFlag, isOwn, isBeside, countSound, formSound, columnSound}
@@ -27,6 +29,12 @@ pub sound : (tag : Tag) → tableSound (bar tag) (columns tag) ≡ true
 sound Pcr = refl
 sound Hbr = refl
 sound Sbr = refl
+
+-- text goes in an order of the columns, and `back` is the way back from it
+pub turned : (tag : Tag) → Turned (length (columns tag)) (order tag) (back tag)
+turned Pcr = record { order-all = refl; order-in = refl; back-all = refl; back-in = refl; again = refl }
+turned Hbr = record { order-all = refl; order-in = refl; back-all = refl; back-in = refl; again = refl }
+turned Sbr = record { order-all = refl; order-in = refl; back-all = refl; back-in = refl; again = refl }
 
 -- ---- what soundness says of a column
 

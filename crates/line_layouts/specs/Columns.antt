@@ -8,6 +8,7 @@
 --               it, and how a record leaves it out
 --   bar         how many of them a record must have
 --   order       the columns of a line, in the order of the text
+--   back        for each column its field in the text: the way back from `order`
 --   width       the bytes of a type in a record
 -- Assumes nothing.
 use Prim.Native.Nat.{ℕ}
@@ -104,6 +105,17 @@ abbrev pub order : Tag → List ℕ
 order Pcr = pcrOrder
 order Hbr = binOrder
 order Sbr = binOrder
+
+abbrev pub pcrBack : List ℕ
+pcrBack = 0 ∷ 1 ∷ 2 ∷ 3 ∷ 4 ∷ 5 ∷ 6 ∷ []
+
+abbrev pub binBack : List ℕ
+binBack = 0 ∷ 1 ∷ 2 ∷ 3 ∷ 4 ∷ 5 ∷ []
+
+abbrev pub back : Tag → List ℕ
+back Pcr = pcrBack
+back Hbr = binBack
+back Sbr = binBack
 
 -- a name's count byte stands in front of it
 abbrev pub width : Form → ℕ

@@ -9,9 +9,9 @@
 -- Assumes nothing.
 use mathlib.Core.Path.{_≡_}
 use mathlib.Core.Bool.{Bool, true, false}
-use mathlib.Core.List.{List, [], _∷_, map}
+use mathlib.Core.List.{List, [], _∷_, _++_, map}
 use Prim.Native.Nat.{ℕ, zero, suc, _+_, _-_, _≤_, _<_}
-use lib.ListN.{length, getD, take}
+use lib.ListN.{length, getD, take, drop}
 use Rattle.output.specs.Placed.{part}
 use Rattle.values.specs.declared.Name.{Name}
 use Rattle.line_layouts.specs.declared.Tag.{Tag}
@@ -54,6 +54,14 @@ Within source (said.Text name) = (name .at + name .len ≤ length source) × (na
 
 abbrev pub noField : Field
 noField = record { said = said.Missing }
+
+-- as many fields as the longest table has columns
+abbrev pub noFields : List Field
+noFields = noField ∷ noField ∷ noField ∷ noField ∷ noField ∷ noField ∷ noField ∷ []
+
+-- fields past a table's columns are missing
+abbrev pub padded : List Field → List Field
+padded fields = fields ++ drop (length fields) noFields
 
 -- seven fields; a name has at most 255 bytes, and all of them stand in the source
 pub record AllWithin (source : List ℕ) (line : Line) : Type 0 where

@@ -2,10 +2,12 @@
 --
 --   saying, refusing   as this code holds them
 --   Judging, saidIn    the same with the bytes of the source: a meaning, or an answer
+--   heldBy             what this code holds of a meaning: the line that says it, or a refusal with nothing to say
 --   Taken              taken apart by this code: what it means, by bytes that are there
+--   Held               .. and the very line that says it, so that nothing is left open
 -- Assumes nothing.
 use mathlib.Core.Path.{_≡_}
-use mathlib.Core.List.{List, [], _∷_}
+use mathlib.Core.List.{List}
 use Prim.Native.Nat.{ℕ}
 use Rattle.answers.specs.declared.Answer.{Answer}
 use Rattle.line_layouts.specs.declared.Tag.the-variants as tag
@@ -13,11 +15,10 @@ use Rattle.line_layouts.specs.declared.Line.{Line}
 use Rattle.line_layouts.specs.declared.Fault.{Fault}
 use Rattle.line_layouts.specs.declared.Fault.the-variants.{None, Found}
 use Rattle.line_layouts.specs.declared.Judged.{Judged}
-use Rattle.line_layouts.specs.Entries.{Meaning, noField, meaningOf, AllWithin}
+use Rattle.line_layouts.specs.Entries.{Meaning, noFields, meaningOf, AllWithin}
 
 abbrev pub noLine : Line
-noLine =
-    record { tag = tag.Pcr; fields = noField ∷ noField ∷ noField ∷ noField ∷ noField ∷ noField ∷ noField ∷ [] }
+noLine = record { tag = tag.Pcr; fields = noFields }
 
 abbrev pub saying : Line → Judged
 saying line = record { fault = None; line = line }
@@ -29,6 +30,10 @@ pub data Judging : Type 0 where
   Says : Meaning → Judging
   Faulty : Answer → Judging
 
+abbrev pub heldBy : Line → Judging → Judged
+heldBy line (Says m) = saying line
+heldBy line (Faulty answer) = refusing answer
+
 abbrev pub byFault : Meaning → Fault → Judging
 byFault m None = Says m
 byFault m (Found answer) = Faulty answer
@@ -39,3 +44,7 @@ saidIn source j = byFault (meaningOf source (j .line)) (j .fault)
 pub record Taken (s : List ℕ) (m : Judging) (j : Judged) : Type 0 where
   pub means : saidIn s j ≡ m
   pub there : j .fault ≡ None → AllWithin s (j .line)
+
+pub record Held (s : List ℕ) (line : Line) (m : Judging) (j : Judged) : Type 0 where
+  pub taken : Taken s m j
+  pub is : j ≡ heldBy line m

@@ -7,7 +7,7 @@ ghost use mathlib.Core.Path.{_≡_};
 ghost use Prim.Native.Nat.{_≤_, _<_};
 ghost use lib.ListN.{length, getD};
 ghost use Rattle.line_layouts.specs.Columns.{pcrColumns, binColumns, subOf, columns, noColumn, width, bar};
-ghost use Rattle.line_layouts.specs.Columns.{pcrOrder, binOrder, order};
+ghost use Rattle.line_layouts.specs.Columns.{pcrOrder, binOrder, order, pcrBack, binBack, back};
 
 pub const SEPARATOR: u8 = b'|';
 
@@ -47,6 +47,11 @@ const BIN: [Column; 6] = [
 const PCR_ORDER: [usize; 7] = [0, 1, 2, 3, 4, 5, 6];
 
 const BIN_ORDER: [usize; 6] = [0, 1, 2, 3, 4, 5];
+
+// For each column its field in the text.
+const PCR_BACK: [usize; 7] = [0, 1, 2, 3, 4, 5, 6];
+
+const BIN_BACK: [usize; 6] = [0, 1, 2, 3, 4, 5];
 
 pub fn column_count(tag: Tag) -> usize
     ensures { λ r. ⌜ (r ≡ length (columns tag)) × (r ≤ 7) ⌝ }
@@ -117,6 +122,32 @@ pub fn order_at(tag: Tag, j: usize) -> usize
         Tag::Pcr => pcr_order(j),
         Tag::Hbr => bin_order(j),
         Tag::Sbr => bin_order(j),
+    }
+}
+
+fn pcr_back(j: usize) -> usize
+    requires { ⌜ j < 7 ⌝ }
+    ensures { λ r. ⌜ r ≡ getD pcrBack j 0 ⌝ }
+{
+    PCR_BACK[j]
+}
+
+fn bin_back(j: usize) -> usize
+    requires { ⌜ j < 6 ⌝ }
+    ensures { λ r. ⌜ r ≡ getD binBack j 0 ⌝ }
+{
+    BIN_BACK[j]
+}
+
+// The field of a line that column j is.
+pub fn back_at(tag: Tag, j: usize) -> usize
+    requires { ⌜ j < length (columns tag) ⌝ }
+    ensures { λ r. ⌜ r ≡ getD (back tag) j 0 ⌝ }
+{
+    match tag {
+        Tag::Pcr => pcr_back(j),
+        Tag::Hbr => bin_back(j),
+        Tag::Sbr => bin_back(j),
     }
 }
 

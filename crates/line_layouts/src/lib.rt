@@ -2,7 +2,6 @@
 pub mod columns;
 pub mod forms;
 pub mod judging;
-pub mod laying;
 pub mod names;
 
 use answers::Answer;

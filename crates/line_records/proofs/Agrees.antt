@@ -16,7 +16,7 @@ use Rattle.prelude.proofs.Never.{false-true}
 use Rattle.numbers.specs.declared.Order.{Order}
 use Rattle.numbers.specs.Numbers.{number, front, past}
 use Rattle.numbers.specs.Laws.{Bytes}
-use Rattle.numbers.proofs.Laws.{number-below, part-bytes, front-part}
+use Rattle.numbers.proofs.Laws.{number-below, part-bytes, bytes-drop, front-part}
 use Rattle.fields.specs.declared.FieldType.{FieldType}
 use Rattle.fields.specs.declared.FieldType.the-variants as field
 use Rattle.fields.specs.Fields as fields
@@ -180,9 +180,6 @@ module _ (ends : Order) where
   number-low : (w : ℕ) (s : List ℕ) → Bytes s → w ≤ length s → number ends (take w s) < past w
   number-low w s bytes h =
       rw (length-take-le w s h) at (number-below ends (take w s) (part-bytes s 0 w bytes))
-
-  bytes-drop : (k : ℕ) (s : List ℕ) → Bytes s → Bytes (drop k s)
-  bytes-drop k s bytes i = rw (getD-drop k s i 0) (bytes (k + i))
 
   -- a required number whose values all fit
   module _ (k : ℕ) (c : Column) (cs : List Column) (number : isNumber (c .0) ≡ true) where

@@ -14,13 +14,15 @@ use Rattle.line_layouts.specs.declared.Tag.{Tag}
 use Rattle.line_layouts.specs.declared.Field.{Field}
 use Rattle.line_layouts.specs.declared.Column.{Column}
 use Rattle.line_layouts.specs.Columns.{columns, bar, noColumn}
-use Rattle.line_layouts.specs.Entries.{Entry, Meaning}
+use Rattle.line_layouts.specs.Entries.{Entry, Meaning, padded}
 use Rattle.line_layouts.specs.Fitting.{isNumber, tableSound}
-use Rattle.line_layouts.specs.Judging.{Faulty, Says, saying, Taken}
+use Rattle.line_layouts.specs.Judging.{Faulty, Says, saying, Taken, Held}
 use Rattle.line_layouts.proofs.Tables.{sound, sane, rest-sound}
 use Rattle.line_layouts.proofs.Fills.{map-take, says, Withins}
 use Rattle.line_records.specs.Walks.{Fits, meant}
 use Rattle.line_records.specs.Records.{countTag, bodyMeans, taggedMeans, meaning}
+use Rattle.line_records.specs.Places.{fieldsFrom, lineAt}
+use Rattle.line_records.specs.Laws.{JudgedOnce}
 
 module _ (ends : Order) (s : List ℕ) where
   pub meaning-frame : isRecord ends s ≡ false → meaning ends s ≡ Faulty NotOneRecord
@@ -44,7 +46,7 @@ says-record ends s m e = go (isRecord ends s) refl
         absurd (omega arith)
 
 -- a body that fits: its fields say what it means
-pub taken-said : (ends : Order) (tag : Tag) (s : List ℕ) (fields : List Field) (n : ℕ) → n ≡ length (columns tag)
+taken-said : (ends : Order) (tag : Tag) (s : List ℕ) (fields : List Field) (n : ℕ) → n ≡ length (columns tag)
     → length fields ≡ 7 → Withins s fields → meant ends tag s ≡ Fits (map (says s) (take n fields))
     → Taken s (bodyMeans tag (meant ends tag s)) (saying (record { tag = tag; fields = fields }))
 taken-said ends tag s fields n all seven within is =
@@ -54,6 +56,21 @@ taken-said ends tag s fields n all seven within is =
       means = rw is (ap (λ (es : List Entry). Says (record { tag = tag; entries = es })) said);
       there = λ e. record { seven = seven; within = within };
     }
+
+-- .. and they are those of the line
+pub held-said : (ends : Order) (tag : Tag) (s : List ℕ) (fields : List Field) (n : ℕ) → n ≡ length (columns tag)
+    → length fields ≡ 7 → Withins s fields → meant ends tag s ≡ Fits (map (says s) (take n fields))
+    → fields ≡ padded (fieldsFrom ends (columns tag) s 0 true)
+    → Held s (lineAt ends tag s) (bodyMeans tag (meant ends tag s)) (saying (record { tag = tag; fields = fields }))
+unfolding lineAt
+held-said ends tag s fields n all seven within is same =
+    record {
+      taken = taken-said ends tag s fields n all seven within is;
+      is = rw is (ap (λ (l : List Field). saying (record { tag = tag; fields = l })) same);
+    }
+
+pub judged-once : JudgedOnce
+judged-once ends s o o′ p q = p .is ∙ sym (q .is)
 
 -- text of a column is short enough for a count byte
 pub short-column : (tag : Tag) (j : ℕ) → j < length (columns tag)

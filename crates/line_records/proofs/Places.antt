@@ -1,17 +1,17 @@
 -- What the walk of this code needs: a field read at its place says what the definition says, one step, and the loop.
 -- Assumes nothing.
 use mathlib.Core.Path.{_≡_, refl, ap, sym, _∙_}
-use mathlib.Core.Bool.{Bool, true, false, cond, _&&_, _||_}
+use mathlib.Core.Bool.{Bool, true, false, cond, _&&_}
 use mathlib.Core.List.{List, [], _∷_, _++_, append-nil, map}
 use Prim.Native.Nat.{ℕ, zero, suc, _+_, _-_, _≤_, _<_}
 use Prim.Native.Char.{code}
 use native.Mathlib.Nat.{add-zero}
 use native.Mathlib.Numerals.{add-one}
 use native.Mathlib.Omega.{arith}
-use borrow.Author.Tests.{leb-true, leb-false, le-leb, lt-leb, eqb-true, eqb-false, eq-eqb, ne-eqb}
+use borrow.Author.Tests.{leb-true, leb-false, le-leb, lt-leb, lt-ltb, eq-eqb, ne-eqb}
 use lib.Dec.{eqb, leb}
 use lib.ListN.{length, getD, take, drop, set, length-drop, length-take, drop-of-length-le}
-use lib.Seq.{drop-cons, drop-drop, take-nil, getD-drop, take-suc-set, getD-set-same, getD-set-other, take-all}
+use lib.Seq.{drop-cons, drop-drop, take-nil, getD-drop, take-all}
 use Rattle.prelude.proofs.Never.{false-true}
 use Rattle.numbers.specs.declared.Order.{Order}
 use Rattle.numbers.specs.declared.Order.the-variants.{HighFirst, LowFirst}
@@ -346,7 +346,13 @@ module _ (k : ℕ) (ends : Order) (c : Column) (s : List ℕ) (at : ℕ) where
     pub goes-field : (r : Step) → Stepped ends c s at r → Going ends c s k at r
     goes-field step.Misfit f = λ cs. goes cs ∙ rw f
     goes-field (step.Says f next) g =
-        ((λ cs. goes cs ∙ rw (g .0, ← g .1)), g .2, (λ short. within-at ends c s at f short (g .0)))
+        let inside = lt-ltb at (length s) here in (
+          (λ cs. goes cs ∙ rw (g .0, ← g .1)),
+          g .2,
+          (λ short. within-at ends c s at f short (g .0)),
+          rw (inside, g .0),
+          rw inside (g .1),
+        )
 
   -- the body stops
   module _ (end : length s ≤ at) where

@@ -1,14 +1,17 @@
--- What is shown of records: statements only. Each is proved in proofs/Records.antt or
--- proofs/Agrees.antt, under its name in small letters.
+-- What is shown of records: statements only. Each is proved in proofs/Records.antt, proofs/Agrees.antt or
+-- proofs/Judges.antt, under its name in small letters.
 --
 --   StoredMeant   the body of a record that is made of a meaning means it
 --   MeantFits     what any body means fits its columns
 --   MeantRead     one rule: a body means something exactly where it fits its kind for a session
+--   JudgedOnce    what this code holds of a record leaves nothing open
 -- Assumes nothing.
 use mathlib.Core.Path.{_≡_}
 use mathlib.Core.Bool.{Bool, true, false}
 use mathlib.Core.List.{List}
 use Prim.Native.Nat.{ℕ}
+use Rattle.prelude.specs.Once.{Once}
+use Rattle.frames.specs.Frames.{body}
 use Rattle.numbers.specs.declared.Order.{Order}
 use Rattle.numbers.specs.Laws.{Bytes}
 use Rattle.kinds.specs.declared.Kind.{Kind}
@@ -20,7 +23,11 @@ use Rattle.line_layouts.specs.declared.Layout.the-variants as layout
 use Rattle.line_layouts.specs.Entries.{Entry, Meaning}
 use Rattle.line_layouts.specs.Layouts.{fieldsOf}
 use Rattle.line_layouts.specs.Fitting.{Fitting}
+use Rattle.line_layouts.specs.declared.Judged.{Judged}
+use Rattle.line_layouts.specs.Judging.{Held}
 use Rattle.line_records.specs.Walks.{Fit, Fits, Misfit, meant}
+use Rattle.line_records.specs.Records.{meaning}
+use Rattle.line_records.specs.Places.{recordLine}
 
 abbrev pub StoredMeant : Type 0
 StoredMeant = (ends : Order) (m : Meaning) → Fitting m
@@ -43,3 +50,10 @@ kindFor tag.Sbr = kind.Sbr
 abbrev pub MeantRead : Type 0
 MeantRead = (ends : Order) (tag : Tag) (b : List ℕ) → Bytes b
     → isFit (meant ends tag b) ≡ fitting (readBody ends (kindFor tag) b)
+
+abbrev pub JudgePromise : Order → List ℕ → Judged → Type 0
+JudgePromise ends s j = Held (body s) (recordLine ends s) (meaning ends s) j
+
+-- "How the promises are held to account": no two different outcomes satisfy it
+abbrev pub JudgedOnce : Type 0
+JudgedOnce = (ends : Order) (s : List ℕ) → Once (JudgePromise ends s)

@@ -3,29 +3,40 @@
 --   fieldAt    what the field at a place says
 --   Stepped    what a function that reads one field promises
 --   Going      the same, where the record may have stopped
+--   lineAt     all fields of a body
+--   recordLine   .. of a record, by its kind
 -- Assumes nothing.
 use mathlib.Core.Path.{_≡_}
-use mathlib.Core.Bool.{Bool, false, cond, _&&_}
+use mathlib.Core.Bool.{Bool, true, false, cond, _&&_}
 use mathlib.Core.List.{List, [], _∷_}
 use Prim.Native.Nat.{ℕ, zero, suc, _+_, _-_, _≤_}
 use Prim.Native.Char.{code}
-use lib.Dec.{eqb, leb}
+use lib.Dec.{eqb, leb, ltb}
 use lib.ListN.{length, getD, take, drop}
 use Rattle.prelude.specs.Choice.{_unless_then_}
 use Rattle.numbers.specs.declared.Order.{Order}
 use Rattle.numbers.specs.Numbers.{number}
+use Rattle.kinds.specs.Kinds.{kindOf}
+use Rattle.frames.specs.Frames.{recTyp, recSub, body}
+use Rattle.line_layouts.specs.declared.Tag.{Tag}
+use Rattle.line_layouts.specs.declared.Tagging.{Tagging}
+use Rattle.line_layouts.specs.declared.Tagging.the-variants.{Known, Other}
 use Rattle.line_layouts.specs.declared.Form.{Form}
 use Rattle.line_layouts.specs.declared.Form.the-variants.{U1, U2, U4, C1, Cn}
 use Rattle.line_layouts.specs.declared.Flag.{Flag}
 use Rattle.line_layouts.specs.declared.Column.{Column}
 use Rattle.line_layouts.specs.declared.Said.{Said}
 use Rattle.line_layouts.specs.declared.Said.the-variants as said
-use Rattle.line_layouts.specs.Columns.{width}
-use Rattle.line_layouts.specs.Entries.{Entry, entryOf, Within}
+use Rattle.line_layouts.specs.declared.Field.{Field}
+use Rattle.line_layouts.specs.declared.Line.{Line}
+use Rattle.line_layouts.specs.Columns.{columns, width}
+use Rattle.line_layouts.specs.Entries.{Entry, entryOf, isMissing, padded, Within}
+use Rattle.line_layouts.specs.Judging.{noLine}
 use Rattle.line_layouts.specs.Fitting.{isNumber, isBeside, isLetter}
 use Rattle.line_records.specs.declared.Step.{Step}
 use Rattle.line_records.specs.declared.Step.the-variants as step
 use Rattle.line_records.specs.Walks.{Fit, Fits, Misfit, put, size, isFlag, walked}
+use Rattle.line_records.specs.Records.{countTag}
 
 abbrev pub numberAt : Form → ℕ → Flag → ℕ → Fit Said
 numberAt form most flag n =
@@ -66,6 +77,17 @@ abbrev pub behind : List Entry → Fit (List Entry) → Fit (List Entry)
 behind [] r = r
 behind (e ∷ es) r = put (Fits e) (behind es r)
 
+abbrev pub saidOf : Fit Said → Said
+saidOf (Fits f) = f
+saidOf Misfit = said.Missing
+
+-- where the record has stopped a field is missing, and the next one begins there too
+abbrev pub stepSaid : Order → Column → List ℕ → ℕ → Said
+stepSaid ends c s at = cond (ltb at (length s)) (saidOf (fieldAt ends c s at)) said.Missing
+
+abbrev pub stepNext : Column → List ℕ → ℕ → ℕ
+stepNext c s at = cond (ltb at (length s)) (at + size (c .0) (drop at s)) at
+
 abbrev pub Stepped : Order → Column → List ℕ → ℕ → Step → Type 0
 Stepped ends c s at step.Misfit = fieldAt ends c s at ≡ Misfit
 Stepped ends c s at (step.Says f next) =
@@ -86,7 +108,32 @@ Going ends c s k at (step.Says f next) =
     → walked k ends (c ∷ cs) (drop at s) ≡ put (Fits (entryOf s f)) (walked (k - 1) ends cs (drop next s)))
     × (next ≤ length s)
     × ((isNumber (c .0) ≡ false → c .1 ≤ 255) → Within s f)
+    × (f ≡ stepSaid ends c s at)
+    × (next ≡ stepNext c s at)
 
 -- a site under head 255
 abbrev pub hiddenSaid : Column → Bool → Said → Said
 hiddenSaid c gone f = cond (isBeside (c .3) && gone) said.Missing f
+
+-- ---- all fields
+
+abbrev pub placeSaid : Order → Column → List ℕ → ℕ → Bool → Said
+placeSaid ends c s at gone = hiddenSaid c gone (stepSaid ends c s at)
+
+-- from a place on, the field before it missing or not
+unfoldable pub fieldsFrom : Order → List Column → List ℕ → ℕ → Bool → List Field
+fieldsFrom ends [] s at gone = []
+fieldsFrom ends (c ∷ cs) s at gone =
+    record { said = placeSaid ends c s at gone } ∷
+    fieldsFrom ends cs s (stepNext c s at) (isMissing (placeSaid ends c s at gone))
+
+unfoldable pub lineAt : Order → Tag → List ℕ → Line
+lineAt ends tag s = record { tag = tag; fields = padded (fieldsFrom ends (columns tag) s 0 true) }
+
+abbrev pub lineTagged : Order → Tagging → List ℕ → Line
+lineTagged ends (Known tag) s = lineAt ends tag s
+lineTagged ends Other s = noLine
+
+-- text is told by places in the body
+unfoldable pub recordLine : Order → List ℕ → Line
+recordLine ends s = lineTagged ends (countTag (kindOf (recTyp s) (recSub s))) (body s)

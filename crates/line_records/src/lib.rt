@@ -10,9 +10,8 @@ use line_layouts::Tagging;
 use line_layouts::judging::refused_line;
 use numbers::Order;
 ghost use mathlib.Core.Path.{_≡_};
-ghost use Rattle.frames.specs.Frames.{body};
-ghost use Rattle.line_layouts.specs.Judging.{Taken};
-ghost use Rattle.line_records.specs.Records.{countTag, meaning};
+ghost use Rattle.line_records.specs.Records.{countTag};
+ghost use Rattle.line_records.specs.Laws.{JudgePromise};
 
 // What a field says, and where the next one begins.
 pub enum Step {
@@ -43,7 +42,7 @@ fn count_tag(kind: Kind) -> Tagging
 
 // A record taken apart, its text told by places in its body.
 pub fn judge_record(order: Order, record: &[u8]) -> Judged
-    ensures { λ r. ⌜ Taken (body (now («record» .entry))) (meaning order (now («record» .entry))) r ⌝ }
+    ensures { λ r. ⌜ JudgePromise order (now («record» .entry)) r ⌝ }
 {
     if !frames::is_record(order, record) {
         return refused_line(Answer::NotOneRecord);

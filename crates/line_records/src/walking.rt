@@ -18,9 +18,9 @@ use line_layouts::forms::is_name;
 use line_layouts::forms::is_number;
 use line_layouts::forms::is_own;
 use line_layouts::forms::missing_value;
+use line_layouts::judging::is_missing;
 use line_layouts::judging::refused_line;
 use line_layouts::judging::said_line;
-use line_layouts::laying::is_missing;
 use numbers::Order;
 use values::Name;
 ghost use mathlib.Core.Path.{_≡_};
@@ -29,10 +29,11 @@ ghost use Prim.Native.Nat.{_+_, _-_, _≤_, _<_};
 ghost use lib.ListN.{length};
 ghost use Rattle.line_layouts.specs.Columns.{width};
 ghost use Rattle.line_layouts.specs.Fitting.{isNumber};
-ghost use Rattle.line_layouts.specs.Judging.{Taken};
+ghost use Rattle.line_layouts.specs.Judging.{Held};
 ghost use Rattle.line_records.specs.Walks.{isFlag, meant};
 ghost use Rattle.line_records.specs.Records.{bodyMeans};
 ghost use Rattle.line_records.specs.Places.{numberIn, hiddenSaid, Stepped, LetterStepped, NameStepped, Going};
+ghost use Rattle.line_records.specs.Places.{lineAt};
 
 // A byte as a number: reading it asks for its place only.
 fn byte(x: u8) -> u32
@@ -173,7 +174,8 @@ fn hide(column: Column, gone: bool, said: Said) -> Said
 }
 
 pub fn walk(order: Order, tag: Tag, s: &[u8]) -> Judged
-    ensures { λ r. ⌜ Taken (now (s .entry)) (bodyMeans tag (meant order tag (now (s .entry)))) r ⌝ }
+    ensures { λ r. ⌜ Held (now (s .entry)) (lineAt order tag (now (s .entry)))
+        (bodyMeans tag (meant order tag (now (s .entry)))) r ⌝ }
 {
     let count = column_count(tag);
     let bar = bar_of(tag);

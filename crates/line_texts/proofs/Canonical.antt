@@ -3,12 +3,12 @@
 use mathlib.Core.Path.{_≡_, refl, ap, sym, subst, _∙_}
 use mathlib.Core.Bool.{Bool, true, false, cond, not, _&&_, _||_}
 use mathlib.Core.List.{List, [], _∷_, _++_, map, append-assoc, append-nil}
-use Prim.Native.Nat.{ℕ, zero, suc, _+_, _-_, _≤_, _<_, _^_}
+use Prim.Native.Nat.{ℕ, zero, suc, _+_, _-_, _≤_, _<_}
 use Prim.Native.Char.{code}
 use native.Mathlib.Omega.{arith}
 use borrow.Author.Tests.{leb-true, le-leb, eqb-true, eqb-false, eq-eqb, ne-eqb, not-true}
 use lib.Dec.{eqb, leb}
-use lib.ListN.{length, getD, take, drop, length-append, length-take, List·getD-append}
+use lib.ListN.{length, getD, take, drop, length-append, length-take, length-map, List·getD-append}
 use lib.Seq.{take-all, take-at, getD-at}
 use Rattle.prelude.specs.Each.{each}
 use Rattle.prelude.proofs.Never.{false-true}
@@ -17,28 +17,30 @@ use Rattle.prelude.proofs.Each.{each-append, each-take, each-at}
 use Rattle.digits.specs.declared.Numeral.{Numeral}
 use Rattle.digits.specs.declared.Numeral.the-variants.{Value, NotANumber}
 use Rattle.digits.specs.Digits.{digits, isDigit, numeral}
-use Rattle.digits.proofs.Laws.{digits-digits, digits-some, numeral-digits, digit-least, digit-most}
+use Rattle.digits.proofs.Laws.{digits-digits, digits-some, numeral-digits, digit-least}
 use Rattle.line_layouts.specs.declared.Tag.{Tag}
 use Rattle.line_layouts.specs.declared.Tag.the-variants.{Pcr, Hbr, Sbr}
 use Rattle.line_layouts.specs.declared.Column.{Column}
 use Rattle.line_layouts.specs.declared.Layout.the-variants as layout
 use Rattle.line_layouts.specs.Columns.{separator, lineFeed, carriageReturn, tagText, columns, noColumn, bar, order}
+use Rattle.line_layouts.specs.Columns.{back}
 use Rattle.line_layouts.specs.Arranging.{arranged}
 use Rattle.line_layouts.specs.Names.{allowed, entryAllowed}
 use Rattle.line_layouts.specs.Entries.{Entry, Missing, Number, Text, Meaning, kept, present}
 use Rattle.line_layouts.specs.Layouts.{isName, entryText, laid, textBy}
 use Rattle.line_layouts.specs.Fitting.{isNumber, hasFlag, isLetter, letterFits, entryFits, sits, tableSound}
-use Rattle.line_layouts.proofs.Arranging.{uptoFrom, length-arranged, arranged-upto}
-use Rattle.line_layouts.proofs.Tables.{sound, Sane, sane, rest-sound, bar-separates, Apart, apart}
+use Rattle.line_layouts.proofs.Arranging.{length-arranged, arranged-at, arranged-same, map-arranged, put-back}
+use Rattle.line_layouts.proofs.Tables.{sound, turned, Sane, sane, rest-sound, bar-separates, Apart, apart}
 use Rattle.line_layouts.specs.Judging.{Says}
 use Rattle.line_layouts.specs.declared.Tagging.{Tagging}
 use Rattle.line_layouts.specs.declared.Tagging.the-variants.{Known, Other}
-use Rattle.line_texts.specs.Pieces.{onto, split, first, rest, numberFits, numberIn}
+use Rattle.line_texts.specs.Pieces.{onto, split, gathered, numberFits, numberIn}
 use Rattle.line_texts.specs.Pieces.{valueIn, pieceFits, entryIn, fieldsFit, entriesIn}
-use Rattle.line_texts.specs.Texts.{isBreak, content, unbroken, tagOf, notALine, fieldsMean}
+use Rattle.line_texts.specs.Texts.{isBreak, content, unbroken, tagOf, fieldsMean}
 use Rattle.line_texts.specs.Texts.{taggedMeans, contentMeans, lineMeaningBy}
 use Rattle.line_texts.specs.Laws.{given, tells, allTell, TellingBy, CanonicalRead, ReadTells, ReadAgain}
-use Rattle.line_texts.proofs.Whole.{ending-feed, mean-said, content-tagged}
+use Rattle.line_texts.proofs.Joins.{joined}
+use Rattle.line_texts.proofs.Whole.{ending-feed, not-said, mean-said, mean-is, content-tagged}
 
 -- ---- bytes that neither separate nor break
 
@@ -131,58 +133,128 @@ module _ (sep : ℕ) (c : Column) (ok : Sane c) where
       let r = text-reads b bs f (leb-true (length (b ∷ bs)) (c .1) g) h (both-right all clean e) in
       (each-weak (allowed sep) (plain sep) (plain-allowed sep) (b ∷ bs) (both-right all clean e), r .0, r .1)
 
--- ---- the pieces of the canonical line
-
-first-kept : (e : Entry) (es : List Entry) → first (map entryText (kept 0 e es)) ≡ entryText e
-first-kept Missing [] = refl
-first-kept Missing (x ∷ es) = refl
-first-kept (Number n) es = refl
-first-kept (Text bytes) es = refl
-
-rest-kept : (e : Entry) (es : List Entry) → rest (map entryText (kept 0 e es)) ≡ map entryText es
-rest-kept Missing [] = refl
-rest-kept Missing (x ∷ es) = refl
-rest-kept (Number n) es = refl
-rest-kept (Text bytes) es = refl
-
-plain-kept : (sep : ℕ) (e : Entry) (es : List Entry) → each (plain sep) (entryText e) ≡ true
-    → each (each (plain sep)) (map entryText es) ≡ true → each (each (plain sep)) (map entryText (kept 0 e es)) ≡ true
-plain-kept sep Missing [] p ps = refl
-plain-kept sep Missing (x ∷ es) p ps = ps
-plain-kept sep (Number n) es p ps = rw (p, ps)
-plain-kept sep (Text bytes) es p ps = rw (p, ps)
+-- ---- all of them, in the order of the columns
 
 module _ (sep : ℕ) (apart : Apart sep) where
-  -- columns read the pieces of present entries as all entries, the dropped ones missing
   pieces-read : (k : ℕ) (cs : List Column) (es : List Entry) → tableSound k cs ≡ true → allTell sep cs es ≡ true
-      → (fieldsFit sep cs (map entryText (present 0 es)) ≡ true)
-      × (entriesIn cs (map entryText (present 0 es)) ≡ es)
+      → (fieldsFit sep cs (map entryText es) ≡ true) × (entriesIn cs (map entryText es) ≡ es)
   unfolding fieldsFit entriesIn
   pieces-read k [] [] ok e = (refl, refl)
   pieces-read k [] (x ∷ es) ok e = false-true e
   pieces-read k (c ∷ cs) [] ok e = false-true e
   pieces-read k (c ∷ cs) (x ∷ es) ok e =
       let r = entry-reads sep c (sane k c cs ok) apart x (both-left (tells sep c x) (allTell sep cs es) e) in
-      let ih = pieces-read (k - 1) cs es (rest-sound k c cs ok) (both-right (tells sep c x) (allTell sep cs es) e) in (
-        rw (first-kept x (present 0 es), rest-kept x (present 0 es), r .1) (ih .0),
-        rw (first-kept x (present 0 es), rest-kept x (present 0 es), r .2, ih .1),
+      let ih = pieces-read (k - 1) cs es (rest-sound k c cs ok) (both-right (tells sep c x) (allTell sep cs es) e) in
+      (rw (r .1, ih .0), rw (r .2, ih .1))
+
+  -- past the last one nothing stands, which is plain
+  pieces-plain : (k : ℕ) (cs : List Column) (es : List Entry) → tableSound k cs ≡ true → allTell sep cs es ≡ true
+      → (i : ℕ) → each (plain sep) (entryText (getD es i Missing)) ≡ true
+  pieces-plain k [] [] ok e i = refl
+  pieces-plain k [] (x ∷ es) ok e i = false-true e
+  pieces-plain k (c ∷ cs) [] ok e i = false-true e
+  pieces-plain k (c ∷ cs) (x ∷ es) ok e zero =
+      entry-reads sep c (sane k c cs ok) apart x (both-left (tells sep c x) (allTell sep cs es) e) .0
+  pieces-plain k (c ∷ cs) (x ∷ es) ok e (suc i) =
+      pieces-plain (k - 1) cs es (rest-sound k c cs ok) (both-right (tells sep c x) (allTell sep cs es) e) i
+
+each-plain : (sep : ℕ) (es : List Entry) → ((i : ℕ) → each (plain sep) (entryText (getD es i Missing)) ≡ true)
+    → each (each (plain sep)) (map entryText es) ≡ true
+each-plain sep [] all = refl
+each-plain sep (e ∷ es) all = rw (all 0, each-plain sep es (λ (i : ℕ). all (suc i)))
+
+-- ---- in the order of the text, without the missing ones at the end
+
+kept-at : (e : Entry) (es : List Entry) (i : ℕ) → getD (kept 0 e es) i Missing ≡ getD (e ∷ es) i Missing
+kept-at Missing [] zero = refl
+kept-at Missing [] (suc i) = refl
+kept-at Missing (x ∷ es) i = refl
+kept-at (Number n) es i = refl
+kept-at (Text bytes) es i = refl
+
+-- what is dropped says nothing
+present-at : (es : List Entry) (i : ℕ) → getD (present 0 es) i Missing ≡ getD es i Missing
+present-at [] i = refl
+present-at (e ∷ es) zero = kept-at e (present 0 es) 0
+present-at (e ∷ es) (suc i) = kept-at e (present 0 es) (suc i) ∙ present-at es i
+
+kept-most : (e : Entry) (es : List Entry) → length (kept 0 e es) ≤ suc (length es)
+kept-most Missing [] = omega arith
+kept-most Missing (x ∷ es) = omega arith
+kept-most (Number n) es = omega arith
+kept-most (Text bytes) es = omega arith
+
+present-most : (es : List Entry) → length (present 0 es) ≤ length es
+present-most [] = omega arith
+present-most (x ∷ es) = omega (arith, kept-most x (present 0 es), present-most es)
+
+-- what a line shows of entries
+abbrev shown : Tag → List Entry → List Entry
+shown tag es = present 0 (arranged Missing (order tag) es)
+
+module _ (tag : Tag) (es : List Entry) where
+  shown-at : (i : ℕ) → getD (shown tag es) i Missing ≡ getD es (getD (order tag) i (length es)) Missing
+  shown-at i =
+      present-at (arranged Missing (order tag) es) i ∙ arranged-at Entry Missing (order tag) es i
+
+  shown-few : length (shown tag es) ≤ length (columns tag)
+  shown-few =
+      omega (
+        arith,
+        present-most (arranged Missing (order tag) es),
+        length-arranged Entry Missing (order tag) es,
+        turned tag .order-all,
       )
 
-  pieces-plain : (k : ℕ) (cs : List Column) (es : List Entry) → tableSound k cs ≡ true → allTell sep cs es ≡ true
-      → each (each (plain sep)) (map entryText (present 0 es)) ≡ true
-  pieces-plain k [] [] ok e = refl
-  pieces-plain k [] (x ∷ es) ok e = false-true e
-  pieces-plain k (c ∷ cs) [] ok e = false-true e
-  pieces-plain k (c ∷ cs) (x ∷ es) ok e =
-      plain-kept sep x (present 0 es)
-      (entry-reads sep c (sane k c cs ok) apart x (both-left (tells sep c x) (allTell sep cs es) e) .0)
-      (pieces-plain (k - 1) cs es (rest-sound k c cs ok) (both-right (tells sep c x) (allTell sep cs es) e))
+module _ (tag : Tag) (es : List Entry) (size : length es ≡ length (columns tag)) where
+  shown-back : arranged Missing (back tag) (shown tag es) ≡ es
+  shown-back =
+      arranged-same Entry Missing (back tag) (shown tag es) (arranged Missing (order tag) es)
+      (present-at (arranged Missing (order tag) es))
+      ∙ put-back Entry Missing es (order tag) (back tag) (rw size (turned tag))
+
+  -- the pieces of a line are gathered to those of the columns
+  shown-gathered : gathered tag (map entryText (shown tag es)) ≡ map entryText es
+  shown-gathered =
+      sym (map-arranged Entry (List ℕ) entryText Missing (back tag) (shown tag es)) ∙ ap (map entryText) shown-back
+
+  -- what says something shows something
+  shown-none : shown tag es ≡ [] → (i : ℕ) → getD es i Missing ≡ Missing
+  shown-none e i =
+      ap (λ (l : List Entry). getD l i Missing) (sym shown-back)
+      ∙ ap (λ (l : List Entry). getD (arranged Missing (back tag) l) i Missing) e
+      ∙ arranged-at Entry Missing (back tag) [] i
+
+-- some field is required of every tag
+abbrev required : List Column → Bool
+required [] = false
+required (c ∷ cs) = c .2 || required cs
+
+required-some : (tag : Tag) → required (columns tag) ≡ true
+required-some Pcr = refl
+required-some Hbr = refl
+required-some Sbr = refl
+
+-- so what a line tells is not all missing
+never-none : {A : Type 0} (sep : ℕ) (cs : List Column) (es : List Entry) → required cs ≡ true
+    → allTell sep cs es ≡ true → ((i : ℕ) → getD es i Missing ≡ Missing) → A
+never-none sep [] es r e all = false-true r
+never-none sep (c ∷ cs) [] r e all = false-true e
+never-none {A} sep (c ∷ cs) (x ∷ es) r e all =
+    go (c .2) refl
+    (λ (f : required cs ≡ true). never-none sep cs es f (both-right (tells sep c x) (allTell sep cs es) e)
+    (λ (i : ℕ). all (suc i)))
+  where
+    there : given c x ≡ true
+    there =
+        both-left (given c x) (entryAllowed sep x)
+        (both-right (entryFits c x) (given c x && entryAllowed sep x) (both-left (tells sep c x) (allTell sep cs es) e))
+
+    go : (t : Bool) → c .2 ≡ t → (required cs ≡ true → A) → A
+    go true f more = let none : x ≡ Missing = all 0 in false-true (rw (none, f) at there)
+    go false f more = more (rw f at r)
 
 -- ---- pieces joined by separators, and cut again
-
-joined : ℕ → List ℕ → List (List ℕ) → List ℕ
-joined sep p [] = p
-joined sep p (q ∷ qs) = p ++ sep ∷ joined sep q qs
 
 module _ (sep : ℕ) where
   no-separator : (b : ℕ) (p : List ℕ) → each (plain sep) (b ∷ p) ≡ true → eqb b sep ≡ false
@@ -268,74 +340,12 @@ content-feed s least whole =
     (sym before ∙ i) in
     rw (ending-feed (s ++ lineFeed ∷ []) no-return feed, size, last) (take-at s (lineFeed ∷ []) n refl)
 
-kept-most : (e : Entry) (es : List Entry) → length (kept 0 e es) ≤ suc (length es)
-kept-most Missing [] = omega arith
-kept-most Missing (x ∷ es) = omega arith
-kept-most (Number n) es = omega arith
-kept-most (Text bytes) es = omega arith
-
-present-most : (es : List Entry) → length (present 0 es) ≤ length es
-present-most [] = omega arith
-present-most (x ∷ es) = omega (arith, kept-most x (present 0 es), present-most es)
-
 pub length-tell : (sep : ℕ) (cs : List Column) (es : List Entry) → allTell sep cs es ≡ true → length es ≡ length cs
 length-tell sep [] [] e = refl
 length-tell sep [] (x ∷ es) e = false-true e
 length-tell sep (c ∷ cs) [] e = false-true e
 length-tell sep (c ∷ cs) (x ∷ es) e =
     ap suc (length-tell sep cs es (both-right (tells sep c x) (allTell sep cs es) e))
-
--- some field is required of every tag
-abbrev required : List Column → Bool
-required [] = false
-required (c ∷ cs) = c .2 || required cs
-
-required-some : (tag : Tag) → required (columns tag) ≡ true
-required-some Pcr = refl
-required-some Hbr = refl
-required-some Sbr = refl
-
-kept-some : (e : Entry) (es : List Entry) → 1 ≤ length es → 1 ≤ length (kept 0 e es)
-kept-some Missing [] h = absurd (omega arith)
-kept-some Missing (x ∷ es) h = omega arith
-kept-some (Number n) es h = omega arith
-kept-some (Text bytes) es h = omega arith
-
-kept-given : (c : Column) (e : Entry) (es : List Entry) → c .2 ≡ true → given c e ≡ true → 1 ≤ length (kept 0 e es)
-kept-given c Missing es r g = false-true (rw r at g)
-kept-given c (Number n) es r g = omega arith
-kept-given c (Text bytes) es r g = omega arith
-
-present-some : (sep : ℕ) (cs : List Column) (es : List Entry) → required cs ≡ true → allTell sep cs es ≡ true
-    → 1 ≤ length (present 0 es)
-present-some sep [] es r e = false-true r
-present-some sep (c ∷ cs) [] r e = false-true e
-present-some sep (c ∷ cs) (x ∷ es) r e = go (c .2) refl (λ f. present-some sep cs es f rest)
-  where
-    rest : allTell sep cs es ≡ true
-    rest = both-right (tells sep c x) (allTell sep cs es) e
-
-    there : given c x ≡ true
-    there =
-        both-left (given c x) (entryAllowed sep x)
-        (both-right (entryFits c x) (given c x && entryAllowed sep x) (both-left (tells sep c x) (allTell sep cs es) e))
-
-    go : (t : Bool) → c .2 ≡ t → (required cs ≡ true → 1 ≤ length (present 0 es))
-        → 1 ≤ length (kept 0 x (present 0 es))
-    go true f more = kept-given c x (present 0 es) f there
-    go false f more = kept-some x (present 0 es) (more (rw f at r))
-
--- text goes in the order of the record
-order-upto : (tag : Tag) → order tag ≡ uptoFrom 0 (length (columns tag))
-order-upto Pcr = refl
-order-upto Hbr = refl
-order-upto Sbr = refl
-
-module _ (A : Type 0) (none : A) where
-  pub in-order : (tag : Tag) (xs : List A) → length xs ≡ length (columns tag) → arranged none (order tag) xs ≡ xs
-  in-order tag xs e =
-      ap (λ (o : List ℕ). arranged none o xs) (order-upto tag)
-      ∙ arranged-upto A none xs (length (columns tag)) (sym e)
 
 tagged : (tag : Tag) (s : List ℕ) → tagOf (tagText tag ++ s) ≡ Known tag
 unfolding tagOf
@@ -358,56 +368,72 @@ some-tag Pcr s = omega arith
 some-tag Hbr s = omega arith
 some-tag Sbr s = omega arith
 
+other : (sep : ℕ) → Apart sep → isBreak sep ≡ false
+other sep ok =
+    rw (
+      ne-eqb sep 10 (λ (i : sep ≡ 10). absurd (omega (arith, ok .low))),
+      ne-eqb sep 13 (λ (i : sep ≡ 13). absurd (omega (arith, ok .low))),
+    )
+
+-- the line of what it shows is cut into the pieces that it shows
+module _ (sep : ℕ) (ok : Apart sep) (tag : Tag) (es : List Entry) (fit : allTell sep (columns tag) es ≡ true) where
+  size : length es ≡ length (columns tag)
+  size = length-tell sep (columns tag) es fit
+
+  line-read : (p : Entry) (ps : List Entry) → shown tag es ≡ p ∷ ps
+      → sits Missing (columns tag) es ≡ true
+      → lineMeaningBy sep (tagText tag ++ (joined sep (entryText p) (map entryText ps) ++ lineFeed ∷ []))
+      ≡ Says (record { tag = tag; entries = es })
+  line-read p ps e sat =
+      let body = joined sep (entryText p) (map entryText ps) in
+      let free = each-plain sep (shown tag es) (λ (i : ℕ). rw (shown-at tag es i)
+      (pieces-plain sep ok (bar tag) (columns tag) es (sound tag) fit (getD (order tag) i (length es)))) in
+      let plains = rw e at free in
+      let first-plain = both-left (each (plain sep) (entryText p)) (each (each (plain sep)) (map entryText ps)) plains in
+      let rest-plain = both-right (each (plain sep) (entryText p)) (each (each (plain sep)) (map entryText ps)) plains in
+      let whole = unbroken-tag tag body
+      (unbroken-joined sep (other sep ok) (entryText p) (map entryText ps) first-plain rest-plain) in
+      let few : length (map entryText (p ∷ ps)) ≤ length (columns tag) =
+      omega (arith, shown-few tag es, ap length e, length-map (p ∷ ps) entryText) in
+      let back = rw e at (shown-gathered tag es size) in
+      let read = pieces-read sep ok (bar tag) (columns tag) es (sound tag) fit in
+      rw (
+        ← append-assoc (tagText tag) body (lineFeed ∷ []),
+        content-feed (tagText tag ++ body) (some-tag tag body) whole,
+        content-tagged sep (tagText tag ++ body) whole,
+        tagged tag body,
+        behind-tag tag body,
+        split-joined sep (entryText p) (map entryText ps) first-plain rest-plain,
+      )
+      (mean-said sep tag (entryText p ∷ map entryText ps)
+      (le-leb (length (map entryText (p ∷ ps))) (length (columns tag)) few)
+      (rw back (read .0)) (rw (back, read .1) sat)
+      ∙ ap (λ (l : List Entry). Says (record { tag = tag; entries = l })) (rw (back, read .1)))
+
 pub canonical-read : CanonicalRead
-canonical-read sep separates m fit = go (present 0 (m .entries)) refl
+canonical-read sep separates m fit = go (shown (m .tag) (m .entries)) refl
   where
     ok : Apart sep
     ok = apart sep separates
 
-    other : isBreak sep ≡ false
-    other =
-        rw (
-          ne-eqb sep 10 (λ (i : sep ≡ 10). absurd (omega (arith, ok .low))),
-          ne-eqb sep 13 (λ (i : sep ≡ 13). absurd (omega (arith, ok .low))),
-        )
+    all : length (m .entries) ≡ length (columns (m .tag))
+    all = length-tell sep (columns (m .tag)) (m .entries) (fit .0)
 
-    go : (ps : List Entry) → present 0 (m .entries) ≡ ps → lineMeaningBy sep (textBy sep m) ≡ Says m
+    go : (ps : List Entry) → shown (m .tag) (m .entries) ≡ ps → lineMeaningBy sep (textBy sep m) ≡ Says m
     go [] e =
-        absurd (omega (
-          arith,
-          present-some sep (columns (m .tag)) (m .entries) (required-some (m .tag)) (fit .0),
-          ap length e,
-        ))
+        never-none sep (columns (m .tag)) (m .entries) (required-some (m .tag)) (fit .0)
+        (shown-none (m .tag) (m .entries) all e)
     go (p ∷ ps) e =
-        let tag = m .tag in
-        let es = m .entries in
-        let cs = columns tag in
-        let size = length-tell sep cs es (fit .0) in
-        let few : length (p ∷ ps) ≤ length cs = omega (arith, present-most es, ap length e) in
-        let body = joined sep (entryText p) (map entryText ps) in
-        let plains = rw e at (pieces-plain sep ok (bar tag) cs es (sound tag) (fit .0)) in
-        let first-plain = both-left (each (plain sep) (entryText p)) (each (each (plain sep)) (map entryText ps))
-        plains in
-        let rest-plain = both-right (each (plain sep) (entryText p)) (each (each (plain sep)) (map entryText ps))
-        plains in
-        let whole = unbroken-tag tag body
-        (unbroken-joined sep other (entryText p) (map entryText ps) first-plain rest-plain) in
-        let cut = split-joined sep (entryText p) (map entryText ps) first-plain rest-plain in
-        let read = rw e at (pieces-read sep ok (bar tag) cs es (sound tag) (fit .0)) in
-        rw (
-          in-order Column noColumn tag cs refl,
-          in-order Entry Missing tag es size,
-          e,
-          laid-joined sep cs p ps few,
-          ← append-assoc (tagText tag) body (lineFeed ∷ []),
-          content-feed (tagText tag ++ body) (some-tag tag body) whole,
-          content-tagged sep (tagText tag ++ body) whole,
-          tagged tag body,
-          behind-tag tag body,
-          cut,
-        )
-        (mean-said sep tag (entryText p ∷ map entryText ps) (read .0) (rw (read .1) (fit .1))
-        ∙ ap (λ (l : List Entry). Says (record { tag = tag; entries = l })) (read .1))
+        let cs = arranged noColumn (order (m .tag)) (columns (m .tag)) in
+        let few : length (p ∷ ps) ≤ length cs =
+        omega (
+          arith,
+          shown-few (m .tag) (m .entries),
+          ap length e,
+          length-arranged Column noColumn (order (m .tag)) (columns (m .tag)),
+          turned (m .tag) .order-all,
+        ) in
+        rw (e, laid-joined sep cs p ps few) (line-read sep ok (m .tag) (m .entries) (fit .0) p ps e (fit .1))
 
 -- ---- what a line means can be told
 
@@ -453,34 +479,18 @@ module _ (sep : ℕ) (ok : Apart sep) where
       → allTell sep cs (entriesIn cs ps) ≡ true
   unfolding fieldsFit entriesIn
   fields-tell k [] ps table e = refl
-  fields-tell k (c ∷ cs) ps table e =
-      go (λ (f : fieldsFit sep cs (rest ps) ≡ true). fields-tell (k - 1) cs (rest ps) (rest-sound k c cs table) f)
-      (pieceFits sep c (first ps)) refl
-    where
-      go : (fieldsFit sep cs (rest ps) ≡ true → allTell sep cs (entriesIn cs (rest ps)) ≡ true)
-          → (t : Bool) → pieceFits sep c (first ps) ≡ t
-          → (tells sep c (entryIn c (first ps)) && allTell sep cs (entriesIn cs (rest ps))) ≡ true
-      go more true f = rw (piece-tells sep ok c (sane k c cs table) (first ps) f, more (rw f at e))
-      go more false f = false-true (rw f at e)
-
-not-said : {A : Type 0} (m : Meaning) → notALine ≡ Says m → A
-not-said m e = let never : _≡_ {A = ℕ} 0 1 = cc in absurd (omega arith)
-
-says-same : (m m′ : Meaning) → Says m ≡ Says m′ → m ≡ m′
-says-same m m′ e = cc
+  fields-tell k (c ∷ cs) [] table e = false-true e
+  fields-tell k (c ∷ cs) (p ∷ ps) table e =
+      rw (
+        piece-tells sep ok c (sane k c cs table) p (both-left (pieceFits sep c p) (fieldsFit sep cs ps) e),
+        fields-tell (k - 1) cs ps (rest-sound k c cs table) (both-right (pieceFits sep c p) (fieldsFit sep cs ps) e),
+      )
 
 module _ (sep : ℕ) (ok : Apart sep) where
   fields-said : (tag : Tag) (ps : List (List ℕ)) (m : Meaning) → fieldsMean sep tag ps ≡ Says m → TellingBy sep m
   fields-said tag ps m e =
-      go (fieldsFit sep (columns tag) ps) refl (sits Missing (columns tag) (entriesIn (columns tag) ps)) refl
-    where
-      go : (t : Bool) → fieldsFit sep (columns tag) ps ≡ t
-          → (u : Bool) → sits Missing (columns tag) (entriesIn (columns tag) ps) ≡ u → TellingBy sep m
-      go false f u g = not-said m (rw f at e)
-      go true f false g = not-said m (rw (f, g) at e)
-      go true f true g =
-          let is = says-same (record { tag = tag; entries = entriesIn (columns tag) ps }) m (rw (f, g) at e) in
-          rw (← is) (fields-tell sep ok (bar tag) (columns tag) ps (sound tag) f, g)
+      let is = mean-is sep tag ps m e in
+      rw (← is .2) (fields-tell sep ok (bar tag) (columns tag) (gathered tag ps) (sound tag) (is .0), is .1)
 
   tagged-said : (t : Tagging) (s : List ℕ) (m : Meaning) → taggedMeans sep t s ≡ Says m → TellingBy sep m
   tagged-said (Known tag) s m e = fields-said tag (split sep (drop 4 s)) m e

@@ -1,20 +1,24 @@
--- Laws of text cut at separators: how a piece ends, and how columns go on with the pieces behind it.
+-- Laws of text cut at separators: how a piece ends, what is left behind it, and how columns go on with the next one.
 -- Assumes nothing.
-use mathlib.Core.Path.{_≡_, refl, ap, sym, _∙_}
+use mathlib.Core.Path.{_≡_, refl, ap, _∙_}
 use mathlib.Core.Bool.{Bool, true, false, not}
 use mathlib.Core.List.{List, [], _∷_, _++_}
-use Prim.Native.Nat.{ℕ, suc, _+_, _-_, _≤_, _<_}
+use Prim.Native.Nat.{ℕ, zero, suc, _+_, _-_, _≤_, _<_}
 use native.Mathlib.Numerals.{add-one}
 use native.Mathlib.Omega.{arith}
-use borrow.Author.Tests.{eq-eqb, ne-eqb, lt-ltb, le-ltb}
-use lib.Dec.{eqb, ltb}
+use borrow.Author.Tests.{eq-eqb, ne-eqb, lt-ltb, le-ltb, lt-leb, le-leb}
+use lib.Dec.{leb, ltb}
 use lib.ListN.{length, getD, drop, length-drop, drop-of-length-le}
 use lib.Seq.{drop-cons, take-suc, getD-drop}
+use Rattle.prelude.proofs.Never.{false-true}
+use Rattle.prelude.proofs.Both.{both-left, both-right}
 use Rattle.output.specs.Placed.{part}
+use Rattle.output.proofs.Laws.{length-part}
 use Rattle.line_layouts.specs.declared.Column.{Column}
 use Rattle.line_layouts.specs.Columns.{noColumn}
-use Rattle.line_texts.specs.Pieces.{onto, split, first, rest, pieceFits, entryIn, isNone, fieldsFit, entriesIn}
-use Rattle.line_texts.specs.Pieces.{left, Ends, Next}
+use Rattle.line_texts.specs.Pieces.{onto, split, pieceFits, fieldsFit}
+use Rattle.line_texts.specs.Places.{noPlace, placesFrom, placesOf, left, placesLeft, Ends, Next}
+use Rattle.line_texts.proofs.Joins.{split-some}
 
 -- ---- bytes in front of a piece
 
@@ -70,77 +74,78 @@ passed-none sep s from =
 
 module _ (sep : ℕ) (s : List ℕ) (from : ℕ) (more : Bool) where
   pub next-none : from ≤ length s → more ≡ false
-      → Next sep s from more (record { at = from; len = 0; next = from; more = false })
-  next-none h e = rw e record { there = omega arith; is = refl; on = h; behind = refl }
+      → Next sep s from more (record { place = noPlace; next = from; more = false })
+  unfolding placesFrom
+  next-none h e = rw e record { is = refl; on = h; behind = refl }
 
   module _ (to : ℕ) (ends : Ends sep s from to) (e : more ≡ true) where
+    cut-left : placesLeft sep more from s
+        ≡ record { at = from; len = to - from } ∷ placesFrom (to + 1) (left sep (ltb to (length s)) (to + 1) s)
+    unfolding placesFrom
+    cut-left =
+        let size = length-part from (to - from) s (omega (arith, ends .low, ends .high)) in
+        let place : from + (to - from) + 1 ≡ to + 1 = omega (arith, ends .low) in
+        rw (e, ends .cut, size, place)
+
     pub next-more : to < length s
-        → Next sep s from more (record { at = from; len = to - from; next = to + 1; more = true })
+        → Next sep s from more (record { place = record { at = from; len = to - from }; next = to + 1; more = true })
     next-more h =
-        rw e record {
-          there = omega (arith, ends .low, ends .high);
-          is = rw (ends .cut);
-          on = omega arith;
-          behind = rw (ends .cut, lt-ltb to (length s) h);
-        }
+        record { is = rw cut-left; on = omega arith; behind = rw (cut-left, lt-ltb to (length s) h) }
 
     pub next-last : length s ≤ to
-        → Next sep s from more (record { at = from; len = to - from; next = to; more = false })
+        → Next sep s from more (record { place = record { at = from; len = to - from }; next = to; more = false })
+    unfolding placesFrom
     next-last h =
-        rw e record {
-          there = omega (arith, ends .low, ends .high);
-          is = rw (ends .cut);
-          on = ends .high;
-          behind = rw (ends .cut, le-ltb to (length s) h);
-        }
+        record { is = rw cut-left; on = ends .high; behind = rw (cut-left, le-ltb to (length s) h) }
+
+-- ---- how many there are
+
+pub length-places : (at : ℕ) (ps : List (List ℕ)) → length (placesFrom at ps) ≡ length ps
+unfolding placesFrom
+length-places at [] = refl
+length-places at (p ∷ ps) = ap suc (length-places (at + length p + 1) ps)
+
+-- text has at least one piece, so what is left is none exactly where there are no more
+pub left-few : (sep : ℕ) (more : Bool) (k n : ℕ) (s : List ℕ)
+    → placesLeft sep more k s ≡ drop n (placesOf sep s) → leb (length (split sep (drop 4 s))) n ≡ not more
+left-few sep more k n s e = go more e
+  where
+    rest : length (drop n (placesOf sep s)) ≡ length (split sep (drop 4 s)) - n
+    rest =
+        length-drop n (placesOf sep s)
+        ∙ ap (λ (i : ℕ). i - n) (length-places 4 (split sep (drop 4 s)))
+
+    go : (t : Bool) → placesLeft sep t k s ≡ drop n (placesOf sep s)
+        → leb (length (split sep (drop 4 s))) n ≡ not t
+    go false f = le-leb (length (split sep (drop 4 s))) n (omega (arith, rest, ap length f, length-places k []))
+    go true f =
+        lt-leb (length (split sep (drop 4 s))) n
+        (omega (arith, rest, ap length f, length-places k (split sep (drop k s)), split-some sep (drop k s)))
 
 -- ---- columns, at column j
 
-module _ (sep : ℕ) (cs : List Column) (j : ℕ) (ps : List (List ℕ)) where
-  module _ (h : j < length cs) where
-    pub fields-no : pieceFits sep (getD cs j noColumn) (first ps) ≡ false → fieldsFit sep (drop j cs) ps ≡ false
+module _ (sep : ℕ) (cs : List Column) (ps : List (List ℕ)) (j : ℕ) where
+  module _ (h : j < length cs) (g : j < length ps) where
+    pub fields-no : pieceFits sep (getD cs j noColumn) (getD ps j []) ≡ false
+        → fieldsFit sep (drop j cs) (drop j ps) ≡ false
     unfolding fieldsFit
-    fields-no e = rw (drop-cons cs j noColumn h, e)
+    fields-no e = rw (drop-cons cs j noColumn h, drop-cons ps j [] g, e)
 
-    pub fields-on : pieceFits sep (getD cs j noColumn) (first ps) ≡ true
-        → fieldsFit sep (drop j cs) ps ≡ fieldsFit sep (drop (j + 1) cs) (rest ps)
+    pub fields-on : pieceFits sep (getD cs j noColumn) (getD ps j []) ≡ true
+        → fieldsFit sep (drop j cs) (drop j ps) ≡ fieldsFit sep (drop (j + 1) cs) (drop (j + 1) ps)
     unfolding fieldsFit
-    fields-on e = rw (drop-cons cs j noColumn h, e, add-one j)
+    fields-on e = rw (drop-cons cs j noColumn h, drop-cons ps j [] g, e, add-one j)
 
-    pub fields-fits : fieldsFit sep (drop j cs) ps ≡ true → pieceFits sep (getD cs j noColumn) (first ps) ≡ true
-    fields-fits e = go (pieceFits sep (getD cs j noColumn) (first ps)) refl
-      where
-        go : (t : Bool) → pieceFits sep (getD cs j noColumn) (first ps) ≡ t → t ≡ true
-        go true f = refl
-        go false f = sym (fields-no f) ∙ e
-
-    pub entries-on : entriesIn (drop j cs) ps
-        ≡ entryIn (getD cs j noColumn) (first ps) ∷ entriesIn (drop (j + 1) cs) (rest ps)
-    unfolding entriesIn
-    entries-on = rw (drop-cons cs j noColumn h, add-one j)
-
-  pub fields-end : length cs ≤ j → fieldsFit sep (drop j cs) ps ≡ isNone ps
+  pub fields-end : length cs ≤ j → fieldsFit sep (drop j cs) (drop j ps) ≡ true
   unfolding fieldsFit
   fields-end h = rw (drop-of-length-le cs {i = j} h)
 
-  pub entries-end : length cs ≤ j → entriesIn (drop j cs) ps ≡ []
-  unfolding entriesIn
-  entries-end h = rw (drop-of-length-le cs {i = j} h)
-
-onto-some : (b : ℕ) (ps : List (List ℕ)) → isNone (onto b ps) ≡ false
-onto-some b [] = refl
-onto-some b (p ∷ ps) = refl
-
-split-some : (sep : ℕ) (s : List ℕ) → isNone (split sep s) ≡ false
-unfolding split
-split-some sep [] = refl
-split-some sep (b ∷ bs) = go (eqb b sep) refl
-  where
-    go : (t : Bool) → eqb b sep ≡ t → isNone (split sep (b ∷ bs)) ≡ false
-    go true e = rw e
-    go false e = rw e (onto-some b (split sep bs))
-
--- text has at least one piece, so what is left is none exactly where there are no more
-pub left-none : (sep : ℕ) (more : Bool) (k : ℕ) (s : List ℕ) → isNone (left sep more k s) ≡ not more
-left-none sep false k s = refl
-left-none sep true k s = split-some sep (drop k s)
+module _ (sep : ℕ) where
+  pub fields-each : (cs : List Column) (ps : List (List ℕ)) (j : ℕ) → fieldsFit sep cs ps ≡ true → j < length cs
+      → pieceFits sep (getD cs j noColumn) (getD ps j []) ≡ true
+  unfolding fieldsFit
+  fields-each [] ps j e h = absurd (omega arith)
+  fields-each (c ∷ cs) [] j e h = false-true e
+  fields-each (c ∷ cs) (p ∷ ps) zero e h = both-left (pieceFits sep c p) (fieldsFit sep cs ps) e
+  fields-each (c ∷ cs) (p ∷ ps) (suc j) e h =
+      fields-each cs ps j (both-right (pieceFits sep c p) (fieldsFit sep cs ps) e) (omega arith)

@@ -1,30 +1,32 @@
 -- Laws of one piece of text.
 -- Assumes nothing.
-use mathlib.Core.Path.{_≡_, refl, ap, sym}
-use mathlib.Core.Bool.{Bool, true, false, not}
+use mathlib.Core.Path.{_≡_, refl, ap, sym, _∙_}
+use mathlib.Core.Bool.{Bool, true, false, cond, not}
 use mathlib.Core.List.{List, [], _∷_}
-use Prim.Native.Nat.{ℕ, _+_, _≤_, min}
+use Prim.Native.Nat.{ℕ, _+_, _-_, _≤_, min}
 use Prim.Native.Char.{code}
 use native.Mathlib.Omega.{arith}
 use native.Mathlib.Nat.{min-eq-left, min-eq-right}
-use borrow.Author.Tests.{eq-eqb, ne-eqb, leb-true, leb-false}
+use borrow.Author.Tests.{eq-eqb, ne-eqb, leb-true, leb-false, le-leb}
 use lib.Dec.{eqb, leb}
 use lib.ListN.{length, getD, take, drop}
 use lib.Seq.{take-all, take-take}
 use Rattle.prelude.specs.Each.{each}
 use Rattle.digits.specs.declared.Numeral.{Numeral}
 use Rattle.digits.specs.declared.Numeral.the-variants.{Value, NotANumber}
+use Rattle.digits.specs.Digits.{numeral}
 use Rattle.output.specs.Placed.{part}
 use Rattle.output.proofs.Laws.{length-part}
+use Rattle.values.specs.declared.Name.{Name}
 use Rattle.line_layouts.specs.declared.Tag.{Tag}
-use Rattle.line_layouts.specs.declared.Tag.the-variants.{Pcr, Hbr, Sbr}
 use Rattle.line_layouts.specs.declared.Said.the-variants as said
-use Rattle.line_layouts.specs.Columns.{columns}
-use Rattle.line_layouts.specs.Entries.{Missing, Text}
+use Rattle.line_layouts.specs.Columns.{columns, bar}
+use Rattle.line_layouts.specs.Entries.{Text, named}
 use Rattle.line_layouts.specs.declared.Column.{Column}
-use Rattle.line_layouts.specs.Fitting.{isNumber, letterFits}
-use Rattle.line_texts.specs.Pieces.{numberFits, numberIn, valueFits, valueIn, pieceFits}
-use Rattle.line_texts.specs.Pieces.{entryIn, numberSaid, Holds, short}
+use Rattle.line_layouts.specs.Fitting.{isNumber, letterFits, tableSound}
+use Rattle.line_layouts.proofs.Tables.{sound, Sane, sane, rest-sound}
+use Rattle.line_texts.specs.Pieces.{numberFits, numberIn, valueFits, pieceFits, entryIn}
+use Rattle.line_texts.specs.Places.{numberSaid, textSaid, saidIn, Holds, short}
 
 -- ---- P/F
 
@@ -62,16 +64,17 @@ module _ (sep : ℕ) (c : Column) where
 
 -- ---- what a piece says
 
-pub entry-empty : (c : Column) → entryIn c [] ≡ Missing
-unfolding entryIn
-entry-empty c = refl
+pub said-empty : (c : Column) (at : ℕ) → saidIn c at [] ≡ said.Missing
+unfolding saidIn
+said-empty c at = refl
 
-pub entry-value : (c : Column) (s : List ℕ) → (length s ≡ 0 → ⊥) → entryIn c s ≡ valueIn c s
-unfolding entryIn
-entry-value c [] h = absurd (h refl)
-entry-value c (b ∷ bs) h = refl
+pub said-value : (c : Column) (at : ℕ) (s : List ℕ) → (length s ≡ 0 → ⊥)
+    → saidIn c at s ≡ cond (isNumber (c .0)) (numberSaid (numeral s)) (textSaid at (length s) (c .1))
+unfolding saidIn
+said-value c at [] h = absurd (h refl)
+said-value c at (b ∷ bs) h = refl
 
-pub number-holds : (s : List ℕ) (n : Numeral) → Holds s (numberSaid n) (numberIn n)
+number-holds : (s : List ℕ) (n : Numeral) → Holds s (numberSaid n) (numberIn n)
 number-holds s (Value n) = record { says = refl; there = tt }
 number-holds s NotANumber = record { says = refl; there = tt }
 
@@ -95,14 +98,41 @@ module _ (at len most : ℕ) (s : List ℕ) (h : at + len ≤ length s) (few : m
       rw (min-eq-right le)
       record { says = ap Text (sym (take-take most len (drop at s) le)); there = (omega arith, few) }
 
-  pub text-holds : Holds s (said.Text (record { at = at; len = min len most })) (Text (take most (part at len s)))
+  text-holds : Holds s (said.Text (record { at = at; len = min len most })) (Text (take most (part at len s)))
   text-holds = keep-cases (leb len most) refl
 
--- every column of text is short
-pub short-columns : (tag : Tag) → each short (columns tag) ≡ true
-short-columns Pcr = refl
-short-columns Hbr = refl
-short-columns Sbr = refl
-
-pub short-most : (c : Column) → short c ≡ true → isNumber (c .0) ≡ false → c .1 ≤ 255
+short-most : (c : Column) → short c ≡ true → isNumber (c .0) ≡ false → c .1 ≤ 255
 short-most c e f = leb-true (c .1) 255 (rw f at e)
+
+-- what a piece says at its place holds what it says
+module _ (s : List ℕ) (c : Column) (n : Name) (h : n .at + n .len ≤ length s) (few : short c ≡ true) where
+  value-holds : (b : ℕ) (bs : List ℕ) → named s n ≡ b ∷ bs → (t : Bool) → isNumber (c .0) ≡ t
+      → Holds s (saidIn c (n .at) (b ∷ bs)) (entryIn c (b ∷ bs))
+  unfolding saidIn entryIn
+  value-holds b bs e true f = rw f (number-holds s (numeral (b ∷ bs)))
+  value-holds b bs e false f =
+      let size : length (b ∷ bs) ≡ n .len = ap length (sym e) ∙ length-part (n .at) (n .len) s h in
+      rw (f, size) (rw e at (text-holds (n .at) (n .len) (c .1) s h (short-most c few f)))
+
+  pub said-holds : Holds s (saidIn c (n .at) (named s n)) (entryIn c (named s n))
+  unfolding saidIn entryIn
+  said-holds = go (named s n) refl
+    where
+      go : (p : List ℕ) → named s n ≡ p → Holds s (saidIn c (n .at) p) (entryIn c p)
+      go [] e = record { says = refl; there = tt }
+      go (b ∷ bs) e = value-holds b bs e (isNumber (c .0)) refl
+
+-- every column of text is short, since its table is sound
+short-sane : (c : Column) → Sane c → short c ≡ true
+short-sane c ok = go (isNumber (c .0)) refl
+  where
+    go : (t : Bool) → isNumber (c .0) ≡ t → short c ≡ true
+    go true f = rw f
+    go false f = rw (f, le-leb (c .1) 255 (ok .short f))
+
+short-all : (k : ℕ) (cs : List Column) → tableSound k cs ≡ true → each short cs ≡ true
+short-all k [] ok = refl
+short-all k (c ∷ cs) ok = rw (short-sane c (sane k c cs ok), short-all (k - 1) cs (rest-sound k c cs ok))
+
+pub short-columns : (tag : Tag) → each short (columns tag) ≡ true
+short-columns tag = short-all (bar tag) (columns tag) (sound tag)

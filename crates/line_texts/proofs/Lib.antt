@@ -1,6 +1,7 @@
 pub mod Fits
+pub mod Joins
 pub mod Cuts
-pub mod Fills
+pub mod Places
 pub mod Whole
 pub mod Canonical
 pub mod Tellings

@@ -1,66 +1,73 @@
--- Laws of a line as a whole: its ending, its tag, its head and site.
+-- Laws of a line as a whole: its ending, its tag, fields beside another, and what this code holds of it.
 -- Assumes nothing.
-use mathlib.Core.Path.{_≡_, refl, ap, sym, _∙_}
-use mathlib.Core.Bool.{Bool, true, false, cond, not, _&&_}
+use mathlib.Core.Path.{_≡_, refl, ap, sym, subst, _∙_}
+use mathlib.Core.Bool.{Bool, true, false, not, _&&_, _||_}
 use mathlib.Core.List.{List, [], _∷_}
-use Prim.Native.Nat.{ℕ, _≤_, _<_}
+use Prim.Native.Nat.{ℕ, _+_, _≤_, _<_}
+use native.Mathlib.Numerals.{add-one}
 use native.Mathlib.Omega.{arith}
 use borrow.Author.Tests.{eq-eqb, ne-eqb}
-use lib.Dec.{eqb}
-use lib.ListN.{length, getD, drop}
-use Rattle.answers.specs.declared.Answer.the-variants.{NotACountLine}
+use lib.Dec.{eqb, leb}
+use lib.ListN.{length, getD, drop, drop-of-length-le}
+use lib.Seq.{drop-cons}
+use Rattle.prelude.proofs.Once.{equation}
 use Rattle.prelude.proofs.Never.{false-true}
-use Rattle.prelude.specs.Each.{each}
-use Rattle.prelude.proofs.Both.{both-left, both-right}
+use Rattle.prelude.proofs.Both.{both-right}
 use Rattle.line_layouts.specs.declared.Tag.{Tag}
 use Rattle.line_layouts.specs.declared.Tag.the-variants.{Pcr, Hbr, Sbr}
+use Rattle.line_layouts.specs.declared.Tagging.{Tagging}
+use Rattle.line_layouts.specs.declared.Tagging.the-variants.{Known, Other}
 use Rattle.line_layouts.specs.declared.Said.{Said}
 use Rattle.line_layouts.specs.declared.Said.the-variants as said
 use Rattle.line_layouts.specs.declared.Line.{Line}
 use Rattle.line_layouts.specs.declared.Column.{Column}
-use Rattle.line_layouts.specs.Columns.{lineFeed, carriageReturn, tagText, pcrColumns, binColumns, columns}
-use Rattle.line_layouts.specs.Entries.{Entry, Missing, entryOf, entriesOf, noField, isMissing}
-use Rattle.line_layouts.specs.Fitting.{isBeside, isNone, agree, sits}
-use Rattle.line_layouts.specs.Judging.{refusing, Judging, Says, Taken}
+use Rattle.line_layouts.specs.declared.Judged.{Judged}
+use Rattle.line_layouts.specs.Columns.{lineFeed, carriageReturn, tagText, columns, noColumn}
+use Rattle.line_layouts.specs.Entries.{Entry, Missing, Meaning, entryOf, entriesOf, meaningOf, noField, isMissing}
+use Rattle.line_layouts.specs.Entries.{AllWithin}
+use Rattle.line_layouts.specs.Fitting.{isBeside, isNone, agree, sitsOne, sits}
+use Rattle.line_layouts.specs.Judging.{Says, Taken}
 use Rattle.line_layouts.proofs.Laid.{said-at, length-entries}
-use Rattle.line_layouts.proofs.Faults.{taken-refused}
-use Rattle.line_texts.specs.Pieces.{fieldsFit, entriesIn}
-use Rattle.line_layouts.specs.declared.Tagging.the-variants.{Known, Other}
-use Rattle.line_texts.specs.Texts.{back, ending, starts, unbroken, tagOf, notALine}
-use Rattle.line_texts.specs.Texts.{fieldsMean, taggedMeans, contentMeans}
+use Rattle.line_layouts.proofs.Faults.{taken-held}
+use Rattle.line_texts.specs.Pieces.{split, gathered, fieldsFit, entriesIn}
+use Rattle.line_texts.specs.Texts.{ending, starts, unbroken, tagOf, notALine, fieldsMean, taggedMeans, contentMeans}
+use Rattle.line_texts.specs.Texts.{fromEnd, Sited}
+use Rattle.line_texts.specs.Places.{lineTagged, lineOf, contentHeld}
+use Rattle.line_texts.specs.Laws.{ContentTaken, JudgedOnce}
+use Rattle.line_texts.proofs.Places.{line-means, line-within}
 
 -- ---- its ending
 
 module _ (s : List ℕ) where
-  pub ending-both : back 2 s ≡ carriageReturn → back 1 s ≡ lineFeed → ending s ≡ 2
+  pub ending-both : fromEnd 2 s ≡ carriageReturn → fromEnd 1 s ≡ lineFeed → ending s ≡ 2
   unfolding ending
-  ending-both e f = rw (eq-eqb (back 2 s) carriageReturn e, eq-eqb (back 1 s) lineFeed f)
+  ending-both e f = rw (eq-eqb (fromEnd 2 s) carriageReturn e, eq-eqb (fromEnd 1 s) lineFeed f)
 
-  pub ending-feed : (back 2 s ≡ carriageReturn → ⊥) → back 1 s ≡ lineFeed → ending s ≡ 1
+  pub ending-feed : (fromEnd 2 s ≡ carriageReturn → ⊥) → fromEnd 1 s ≡ lineFeed → ending s ≡ 1
   unfolding ending
-  ending-feed e f = rw (ne-eqb (back 2 s) carriageReturn e, eq-eqb (back 1 s) lineFeed f)
+  ending-feed e f = rw (ne-eqb (fromEnd 2 s) carriageReturn e, eq-eqb (fromEnd 1 s) lineFeed f)
 
-  module _ (f : back 1 s ≡ lineFeed → ⊥) where
-    and-false : (t : Bool) → (t && eqb (back 1 s) lineFeed) ≡ false
-    and-false true = ne-eqb (back 1 s) lineFeed f
+  module _ (f : fromEnd 1 s ≡ lineFeed → ⊥) where
+    and-false : (t : Bool) → (t && eqb (fromEnd 1 s) lineFeed) ≡ false
+    and-false true = ne-eqb (fromEnd 1 s) lineFeed f
     and-false false = refl
 
-    pub ending-return : back 1 s ≡ carriageReturn → ending s ≡ 1
+    pub ending-return : fromEnd 1 s ≡ carriageReturn → ending s ≡ 1
     unfolding ending
     ending-return e =
         rw (
-          and-false (eqb (back 2 s) carriageReturn),
-          ne-eqb (back 1 s) lineFeed f,
-          eq-eqb (back 1 s) carriageReturn e,
+          and-false (eqb (fromEnd 2 s) carriageReturn),
+          ne-eqb (fromEnd 1 s) lineFeed f,
+          eq-eqb (fromEnd 1 s) carriageReturn e,
         )
 
-    pub ending-none : (back 1 s ≡ carriageReturn → ⊥) → ending s ≡ 0
+    pub ending-none : (fromEnd 1 s ≡ carriageReturn → ⊥) → ending s ≡ 0
     unfolding ending
     ending-none e =
         rw (
-          and-false (eqb (back 2 s) carriageReturn),
-          ne-eqb (back 1 s) lineFeed f,
-          ne-eqb (back 1 s) carriageReturn e,
+          and-false (eqb (fromEnd 2 s) carriageReturn),
+          ne-eqb (fromEnd 1 s) lineFeed f,
+          ne-eqb (fromEnd 1 s) carriageReturn e,
         )
 
 pub ending-empty : (s : List ℕ) → length s ≡ 0 → ending s ≡ 0
@@ -69,7 +76,7 @@ ending-empty [] e = refl
 ending-empty (b ∷ bs) e = absurd (omega arith)
 
 -- one byte is not two
-pub ending-two : (s : List ℕ) → (length s ≡ 0 → ⊥) → back 2 s ≡ carriageReturn → back 1 s ≡ lineFeed → 2 ≤ length s
+pub ending-two : (s : List ℕ) → (length s ≡ 0 → ⊥) → fromEnd 2 s ≡ carriageReturn → fromEnd 1 s ≡ lineFeed → 2 ≤ length s
 ending-two [] some e f = absurd (some refl)
 ending-two (b ∷ []) some e f = absurd (omega (arith, e, f))
 ending-two (b ∷ c ∷ bs) some e f = omega arith
@@ -137,83 +144,131 @@ module _ (s : List ℕ) where
       unfolding tagOf
       tag-other e = rw (p, h, e)
 
--- ---- head and site
+-- ---- a field beside another, wherever it stands
 
 none-missing : (source : List ℕ) (f : Said) → isNone (entryOf source f) ≡ isMissing f
 none-missing source said.Missing = refl
 none-missing source (said.Number n) = refl
 none-missing source (said.Text name) = refl
 
-columns-two : (tag : Tag) → 2 ≤ length (columns tag)
-columns-two Pcr = omega arith
-columns-two Hbr = omega arith
-columns-two Sbr = omega arith
+-- the entry before number j; before the first one nothing is given
+abbrev lastOf : List Entry → ℕ → Entry
+lastOf es j = getD (Missing ∷ es) j Missing
 
--- columns none of which is beside another
-sits-apart : (last : Entry) (cs : List Column) (es : List Entry)
-    → each (λ (c : Column). not (isBeside (c .3))) cs ≡ true → sits last cs es ≡ true
-unfolding sits
-sits-apart last [] es e = refl
-sits-apart last (c ∷ cs) [] e = refl
-sits-apart last (c ∷ cs) (x ∷ es) e =
-    rw (
-      both-left (not (isBeside (c .3))) (each (λ (d : Column). not (isBeside (d .3))) cs) e,
-      sits-apart x cs es (both-right (not (isBeside (c .3))) (each (λ (d : Column). not (isBeside (d .3))) cs) e),
+module _ (cs : List Column) (es : List Entry) (j : ℕ) where
+  module _ (h : j < length cs) (g : j < length es) where
+    sits-no : sitsOne (getD cs j noColumn) (lastOf es j) (getD es j Missing) ≡ false
+        → sits (lastOf es j) (drop j cs) (drop j es) ≡ false
+    unfolding sits
+    sits-no e = rw (drop-cons cs j noColumn h, drop-cons es j Missing g, e)
+
+    sits-on : sitsOne (getD cs j noColumn) (lastOf es j) (getD es j Missing) ≡ true
+        → sits (lastOf es j) (drop j cs) (drop j es) ≡ sits (lastOf es (j + 1)) (drop (j + 1) cs) (drop (j + 1) es)
+    unfolding sits
+    sits-on e = rw (drop-cons cs j noColumn h, drop-cons es j Missing g, e, add-one j)
+
+  sits-end : length cs ≤ j → sits (lastOf es j) (drop j cs) (drop j es) ≡ true
+  unfolding sits
+  sits-end h = rw (drop-of-length-le cs {i = j} h)
+
+-- the fields before number j are as they must be, and whether the last of them is missing
+abbrev pub Sitting : Line → ℕ → Bool → Type 0
+Sitting line j gone =
+    (source : List ℕ)
+    → (gone ≡ isNone (lastOf (entriesOf source line) j))
+    × (sits Missing (columns (line .tag)) (entriesOf source line)
+    ≡ sits (lastOf (entriesOf source line) j) (drop j (columns (line .tag))) (drop j (entriesOf source line)))
+
+pub sitting-first : (line : Line) → Sitting line 0 true
+sitting-first line source = (refl, refl)
+
+module _ (line : Line) (seven : length (line .fields) ≡ 7) (j : ℕ) (gone : Bool) (so-far : Sitting line j gone) where
+  abbrev none : Bool
+  none = isMissing (getD (line .fields) j noField .said)
+
+  module _ (h : j < length (columns (line .tag))) (source : List ℕ) where
+    none-at : isNone (getD (entriesOf source line) j Missing) ≡ none
+    none-at =
+        ap isNone (said-at source line seven j h) ∙ none-missing source (getD (line .fields) j noField .said)
+
+    one-at : sitsOne (getD (columns (line .tag)) j noColumn) (lastOf (entriesOf source line) j)
+        (getD (entriesOf source line) j Missing)
+        ≡ (not (isBeside (getD (columns (line .tag)) j noColumn .3)) || agree gone none)
+    one-at = rw (← so-far source .0, none-at)
+
+    inside : j < length (entriesOf source line)
+    inside = omega (arith, length-entries source line seven)
+
+  module _ (h : j < length (columns (line .tag))) where
+    pub sitting-no : (not (isBeside (getD (columns (line .tag)) j noColumn .3)) || agree gone none) ≡ false
+        → Sited line false
+    sitting-no e =
+        record {
+          all = λ (source : List ℕ). sym (so-far source .1
+              ∙ sits-no (columns (line .tag)) (entriesOf source line) j h (inside h source) (one-at h source ∙ e));
+        }
+
+    pub sitting-on : (not (isBeside (getD (columns (line .tag)) j noColumn .3)) || agree gone none) ≡ true
+        → Sitting line (j + 1) none
+    sitting-on e source = (
+      rw (add-one j) (sym (none-at h source)),
+      so-far source .1
+          ∙ sits-on (columns (line .tag)) (entriesOf source line) j h (inside h source) (one-at h source ∙ e),
     )
 
--- head and site are the first two fields of each line
-sits-two : (tag : Tag) (a b : Entry) (es : List Entry)
-    → sits Missing (columns tag) (a ∷ b ∷ es) ≡ (agree (isNone a) (isNone b) && true)
-unfolding sits
-sits-two Pcr a b es = rw (sits-apart b (drop 2 pcrColumns) es refl)
-sits-two Hbr a b es = rw (sits-apart b (drop 2 binColumns) es refl)
-sits-two Sbr a b es = rw (sits-apart b (drop 2 binColumns) es refl)
-
-sits-first : (tag : Tag) (es : List Entry) → 2 ≤ length es
-    → sits Missing (columns tag) es ≡ (agree (isNone (getD es 0 Missing)) (isNone (getD es 1 Missing)) && true)
-sits-first tag [] h = absurd (omega arith)
-sits-first tag (a ∷ []) h = absurd (omega arith)
-sits-first tag (a ∷ b ∷ es) h = sits-two tag a b es
-
-module _ (source : List ℕ) (line : Line) (seven : length (line .fields) ≡ 7) where
-  none-at : (j : ℕ) → j < 2
-      → isNone (getD (entriesOf source line) j Missing) ≡ isMissing (getD (line .fields) j noField .said)
-  none-at j h =
-      ap isNone (said-at source line seven j (omega (arith, columns-two (line .tag))))
-      ∙ none-missing source (getD (line .fields) j noField .said)
-
-  -- the two of them, as this code reads them
-  pub sites-told : sits Missing (columns (line .tag)) (entriesOf source line)
-      ≡ cond (isMissing (getD (line .fields) 0 noField .said)) (isMissing (getD (line .fields) 1 noField .said))
-      (not (isMissing (getD (line .fields) 1 noField .said)))
-  sites-told =
-      sits-first (line .tag) (entriesOf source line)
-      (omega (arith, columns-two (line .tag), length-entries source line seven))
-      ∙ rw (none-at 0 (omega arith), none-at 1 (omega arith))
-      (go (isMissing (getD (line .fields) 0 noField .said)) (isMissing (getD (line .fields) 1 noField .said)))
-    where
-      go : (t u : Bool) → (agree t u && true) ≡ cond t u (not u)
-      go true true = refl
-      go true false = refl
-      go false true = refl
-      go false false = refl
+  pub sitting-end : length (columns (line .tag)) ≤ j → Sited line true
+  sitting-end h =
+      record {
+        all = λ (source : List ℕ). sym (so-far source .1
+            ∙ sits-end (columns (line .tag)) (entriesOf source line) j h);
+      }
 
 -- ---- taken apart
 
-pub taken-line : (s : List ℕ) (m : Judging) → m ≡ notALine → Taken s m (refusing NotACountLine)
-taken-line s m e = taken-refused s m NotACountLine e
+pub not-said : {A : Type 0} (m : Meaning) → notALine ≡ Says m → A
+not-said m e = let never : _≡_ {A = ℕ} 0 1 = cc in absurd (omega arith)
+
+says-same : (m m′ : Meaning) → Says m ≡ Says m′ → m ≡ m′
+says-same m m′ e = cc
 
 module _ (sep : ℕ) (tag : Tag) (ps : List (List ℕ)) where
-  pub mean-misfit : fieldsFit sep (columns tag) ps ≡ false → fieldsMean sep tag ps ≡ notALine
-  mean-misfit e = rw e
+  -- what its pieces say
+  abbrev said-entries : List Entry
+  said-entries = entriesIn (columns tag) (gathered tag ps)
 
-  module _ (f : fieldsFit sep (columns tag) ps ≡ true) where
-    pub mean-sites : sits Missing (columns tag) (entriesIn (columns tag) ps) ≡ false → fieldsMean sep tag ps ≡ notALine
-    mean-sites e = rw (f, e)
+  pub mean-many : leb (length ps) (length (columns tag)) ≡ false → fieldsMean sep tag ps ≡ notALine
+  mean-many e = rw e
 
-    pub mean-said : sits Missing (columns tag) (entriesIn (columns tag) ps) ≡ true
-        → fieldsMean sep tag ps ≡ Says (record { tag = tag; entries = entriesIn (columns tag) ps })
-    mean-said e = rw (f, e)
+  module _ (l : leb (length ps) (length (columns tag)) ≡ true) where
+    pub mean-misfit : fieldsFit sep (columns tag) (gathered tag ps) ≡ false → fieldsMean sep tag ps ≡ notALine
+    mean-misfit e = rw (l, e)
+
+    module _ (f : fieldsFit sep (columns tag) (gathered tag ps) ≡ true) where
+      pub mean-sites : sits Missing (columns tag) said-entries ≡ false → fieldsMean sep tag ps ≡ notALine
+      mean-sites e = rw (l, f, e)
+
+      pub mean-said : sits Missing (columns tag) said-entries ≡ true
+          → fieldsMean sep tag ps ≡ Says (record { tag = tag; entries = said-entries })
+      mean-said e = rw (l, f, e)
+
+  -- what pieces mean passed each check
+  pub mean-is : (m : Meaning) → fieldsMean sep tag ps ≡ Says m
+      → (fieldsFit sep (columns tag) (gathered tag ps) ≡ true) × (sits Missing (columns tag) said-entries ≡ true)
+      × (record { tag = tag; entries = said-entries } ≡ m)
+  mean-is m e =
+      go (leb (length ps) (length (columns tag))) refl (fieldsFit sep (columns tag) (gathered tag ps)) refl
+      (sits Missing (columns tag) said-entries) refl
+    where
+      go : (t : Bool) → leb (length ps) (length (columns tag)) ≡ t
+          → (u : Bool) → fieldsFit sep (columns tag) (gathered tag ps) ≡ u
+          → (v : Bool) → sits Missing (columns tag) said-entries ≡ v
+          → (fieldsFit sep (columns tag) (gathered tag ps) ≡ true) × (sits Missing (columns tag) said-entries ≡ true)
+          × (record { tag = tag; entries = said-entries } ≡ m)
+      go false l u f v g = not-said m (sym (mean-many l) ∙ e)
+      go true l false f v g = not-said m (sym (mean-misfit l f) ∙ e)
+      go true l true f false g = not-said m (sym (mean-sites l f g) ∙ e)
+      go true l true f true g =
+          (f, g, says-same (record { tag = tag; entries = said-entries }) m (sym (mean-said l f g) ∙ e))
 
 module _ (sep : ℕ) (s : List ℕ) where
   pub content-broken : unbroken s ≡ false → contentMeans sep s ≡ notALine
@@ -237,3 +292,31 @@ module _ (s : List ℕ) where
       go false i true j b k = starts-four (tagText Hbr) s j
       go false i false j true k = starts-four (tagText Sbr) s k
       go false i false j false k = never (tag-other s i j k ∙ e)
+
+-- ---- what this code holds of it
+
+module _ (sep : ℕ) (s : List ℕ) where
+  tagged-held : (t : Tagging) → tagOf s ≡ t → (m : Meaning) → taggedMeans sep t s ≡ Says m
+      → (meaningOf s (lineTagged sep s t) ≡ m) × AllWithin s (lineTagged sep s t)
+  tagged-held (Known tag) is m e =
+      let long = tag-four s tag is in
+      (line-means sep s tag long ∙ mean-is sep tag (split sep (drop 4 s)) m e .2, line-within sep s tag long)
+  tagged-held Other is m e = not-said m e
+
+  -- where a content means something, the line that is held says it, by bytes that are there
+  content-held : (m : Meaning) → contentMeans sep s ≡ Says m
+      → (meaningOf s (lineOf sep s) ≡ m) × AllWithin s (lineOf sep s)
+  content-held m e = go (unbroken s) refl
+    where
+      go : (t : Bool) → unbroken s ≡ t → (meaningOf s (lineOf sep s) ≡ m) × AllWithin s (lineOf sep s)
+      go true f = tagged-held (tagOf s) refl m (sym (content-tagged sep s f) ∙ e)
+      go false f = not-said m (sym (content-broken sep s f) ∙ e)
+
+pub content-taken : ContentTaken
+unfolding contentHeld
+content-taken sep s j e =
+    subst (λ (k : Judged). Taken s (contentMeans sep s) k) (sym e)
+    (taken-held s (lineOf sep s) (contentMeans sep s) (content-held sep s))
+
+pub judged-once : JudgedOnce
+judged-once sep s = equation Judged (contentHeld sep s)

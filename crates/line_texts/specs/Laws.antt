@@ -1,23 +1,29 @@
--- What is shown of lines: statements only. Each is proved in proofs/Canonical.antt, under its name in small letters.
+-- What is shown of lines: statements only. Each is proved in proofs/Canonical.antt or proofs/Whole.antt, under its name
+-- in small letters.
 --
 --   tells          whether a line can give an entry: it fits its column, is there where it must be, and can be written
 --   TellingBy      a meaning that some line has
 --   CanonicalRead  the canonical line of such a meaning means it
 --   ReadTells      what any line means is such a meaning
 --   ReadAgain      so any line that is read means what its canonical line means
+--   ContentTaken   what this code holds of a line means what the line means, by bytes that are there
+--   JudgedOnce     and nothing of it is left open
 -- Assumes nothing.
 use mathlib.Core.Path.{_≡_}
 use mathlib.Core.Bool.{Bool, true, false, not, _&&_}
 use mathlib.Core.List.{List, [], _∷_}
 use Prim.Native.Nat.{ℕ}
+use Rattle.prelude.specs.Once.{Once}
 use Rattle.line_layouts.specs.declared.Column.{Column}
 use Rattle.line_layouts.specs.Columns.{separator, columns}
 use Rattle.line_layouts.specs.Names.{entryAllowed, separates}
 use Rattle.line_layouts.specs.Entries.{Entry, Missing, Number, Text, Meaning}
 use Rattle.line_layouts.specs.Layouts.{textBy, textOf}
 use Rattle.line_layouts.specs.Fitting.{entryFits, sits}
-use Rattle.line_layouts.specs.Judging.{Says}
-use Rattle.line_texts.specs.Texts.{lineMeaningBy, lineMeaning}
+use Rattle.line_layouts.specs.declared.Judged.{Judged}
+use Rattle.line_layouts.specs.Judging.{Says, Taken}
+use Rattle.line_texts.specs.Texts.{contentMeans, lineMeaningBy, lineMeaning}
+use Rattle.line_texts.specs.Places.{contentHeld}
 
 abbrev pub given : Column → Entry → Bool
 given c Missing = not (c .2)
@@ -51,3 +57,15 @@ ReadTells = (sep : ℕ) → separates sep ≡ true → (line : List ℕ) (m : Me
 
 abbrev pub ReadAgain : Type 0
 ReadAgain = (line : List ℕ) (m : Meaning) → lineMeaning line ≡ Says m → lineMeaning (textOf m) ≡ Says m
+
+-- ---- as this code holds it
+
+abbrev pub JudgePromise : ℕ → List ℕ → Judged → Type 0
+JudgePromise sep s j = j ≡ contentHeld sep s
+
+abbrev pub ContentTaken : Type 0
+ContentTaken = (sep : ℕ) (s : List ℕ) (j : Judged) → JudgePromise sep s j → Taken s (contentMeans sep s) j
+
+-- "How the promises are held to account": no two different outcomes satisfy it
+abbrev pub JudgedOnce : Type 0
+JudgedOnce = (sep : ℕ) (s : List ℕ) → Once (JudgePromise sep s)

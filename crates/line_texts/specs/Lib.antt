@@ -1,3 +1,4 @@
 pub mod Pieces
 pub mod Texts
+pub mod Places
 pub mod Laws

@@ -1,32 +1,28 @@
 -- A field of a line. Document 01, "Count lines", Read: numbers, P/F, names, required fields.
 --
---   split         text cut at each separator
---   first, rest   the pieces of a line that may stop before its last columns
---   pieceFits     whether a piece is the text of a column
---   entryIn       what such a piece says
+--   split       text cut at each separator
+--   gathered    the pieces in the order of the columns
+--   pieceFits   whether a piece is the text of a column
+--   entryIn     what such a piece says
+--   fieldsFit, entriesIn   both of all columns
 -- Assumes nothing.
-use mathlib.Core.Path.{_≡_}
-use mathlib.Core.Bool.{Bool, true, false, cond, not, _||_}
+use mathlib.Core.Bool.{Bool, true, false, cond, not, _&&_}
 use mathlib.Core.List.{List, [], _∷_}
-use Prim.Native.Nat.{ℕ, _+_, _-_, _≤_}
-use lib.Dec.{eqb, leb, ltb}
-use lib.ListN.{length, take, drop}
+use Prim.Native.Nat.{ℕ}
+use lib.Dec.{eqb, leb}
+use lib.ListN.{take}
 use Rattle.prelude.specs.Each.{each}
 use Rattle.digits.specs.declared.Numeral.{Numeral}
 use Rattle.digits.specs.declared.Numeral.the-variants.{Value, NotANumber}
 use Rattle.digits.specs.Digits.{numeral}
-use Rattle.output.specs.Placed.{part}
 use Rattle.line_layouts.specs.declared.Tag.{Tag}
 use Rattle.line_layouts.specs.declared.Column.{Column}
-use Rattle.line_layouts.specs.declared.Said.{Said}
-use Rattle.line_layouts.specs.declared.Said.the-variants as said
-use Rattle.line_layouts.specs.declared.Line.{Line}
-use Rattle.line_layouts.specs.Columns.{columns}
+use Rattle.line_layouts.specs.Arranging.{arranged}
+use Rattle.line_layouts.specs.Columns.{back}
 use Rattle.line_layouts.specs.Names.{allowed}
-use Rattle.line_layouts.specs.Entries.{Entry, Missing, Number, Text, entryOf, meaningOf, Within, AllWithin}
+use Rattle.line_layouts.specs.Entries.{Entry, Missing, Number, Text}
 use Rattle.line_layouts.specs.Layouts.{isName}
 use Rattle.line_layouts.specs.Fitting.{isNumber, letterFits}
-use Rattle.line_texts.specs.declared.Piece.{Piece}
 
 abbrev pub onto : ℕ → List (List ℕ) → List (List ℕ)
 onto b [] = (b ∷ []) ∷ []
@@ -37,14 +33,10 @@ unfoldable pub split : ℕ → List ℕ → List (List ℕ)
 split sep [] = [] ∷ []
 split sep (b ∷ bs) = cond (eqb b sep) ([] ∷ split sep bs) (onto b (split sep bs))
 
--- a line may stop early: the fields that it does not come to are empty
-abbrev pub first : List (List ℕ) → List ℕ
-first [] = []
-first (p ∷ ps) = p
-
-abbrev pub rest : List (List ℕ) → List (List ℕ)
-rest [] = []
-rest (p ∷ ps) = ps
+-- the piece that each column takes: text has an order of its own, and may stop early, so the fields that it does not
+-- come to are empty
+abbrev pub gathered : Tag → List (List ℕ) → List (List ℕ)
+gathered tag ps = arranged [] (back tag) ps
 
 -- ---- the rules of one piece
 
@@ -77,52 +69,12 @@ entryIn c (b ∷ bs) = valueIn c (b ∷ bs)
 
 -- ---- all of them, one for each column
 
-abbrev pub isNone : List (List ℕ) → Bool
-isNone [] = true
-isNone (p ∷ ps) = false
-
--- too many fields, even empty ones, do not fit
 unfoldable pub fieldsFit : ℕ → List Column → List (List ℕ) → Bool
-fieldsFit sep [] ps = isNone ps
-fieldsFit sep (c ∷ cs) ps = cond (pieceFits sep c (first ps)) (fieldsFit sep cs (rest ps)) false
+fieldsFit sep [] ps = true
+fieldsFit sep (c ∷ cs) [] = false
+fieldsFit sep (c ∷ cs) (p ∷ ps) = pieceFits sep c p && fieldsFit sep cs ps
 
 unfoldable pub entriesIn : List Column → List (List ℕ) → List Entry
 entriesIn [] ps = []
-entriesIn (c ∷ cs) ps = entryIn c (first ps) ∷ entriesIn cs (rest ps)
-
--- ---- as this code holds them
-
--- the pieces from place k on, where there are more
-abbrev pub left : ℕ → Bool → ℕ → List ℕ → List (List ℕ)
-left sep more k s = cond more (split sep (drop k s)) []
-
--- the end of the piece that begins at a place
-pub record Ends (sep : ℕ) (s : List ℕ) (from to : ℕ) : Type 0 where
-  pub low : from ≤ to
-  pub high : to ≤ length s
-  pub cut : split sep (drop from s) ≡ part from (to - from) s ∷ left sep (ltb to (length s)) (to + 1) s
-
--- the next piece, and what is left behind it
-pub record Next (sep : ℕ) (s : List ℕ) (from : ℕ) (more : Bool) (p : Piece) : Type 0 where
-  pub there : p .at + p .len ≤ length s
-  pub is : part (p .at) (p .len) s ≡ first (left sep more from s)
-  pub on : p .next ≤ length s
-  pub behind : left sep (p .more) (p .next) s ≡ rest (left sep more from s)
-
-abbrev pub numberSaid : Numeral → Said
-numberSaid (Value n) = said.Number n
-numberSaid NotANumber = said.Missing
-
--- a field says an entry, by bytes that are there
-pub record Holds (s : List ℕ) (f : Said) (e : Entry) : Type 0 where
-  pub says : entryOf s f ≡ e
-  pub there : Within s f
-
--- text is cut short enough for a count byte
-abbrev pub short : Column → Bool
-short c = isNumber (c .0) || leb (c .1) 255
-
--- a line whose fields say what its text says
-pub record Filled (sep : ℕ) (s : List ℕ) (tag : Tag) (line : Line) : Type 0 where
-  pub there : AllWithin s line
-  pub is : meaningOf s line ≡ record { tag = tag; entries = entriesIn (columns tag) (split sep (drop 4 s)) }
+entriesIn (c ∷ cs) [] = []
+entriesIn (c ∷ cs) (p ∷ ps) = entryIn c p ∷ entriesIn cs ps

@@ -10,7 +10,7 @@ use mathlib.Core.Path.{_≡_}
 use mathlib.Core.Bool.{Bool, true, false, cond, not, _&&_, _||_}
 use mathlib.Core.List.{List, [], _∷_}
 use Prim.Native.Nat.{ℕ, _-_}
-use lib.Dec.{eqb}
+use lib.Dec.{eqb, leb}
 use lib.ListN.{length, getD, take, drop}
 use Rattle.prelude.specs.Choice.{_unless_then_}
 use Rattle.prelude.specs.Each.{each}
@@ -24,19 +24,19 @@ use Rattle.line_layouts.specs.Fitting.{sits}
 use Rattle.line_layouts.specs.Judging.{Judging, Says, Faulty}
 use Rattle.line_layouts.specs.declared.Tagging.{Tagging}
 use Rattle.line_layouts.specs.declared.Tagging.the-variants.{Known, Other}
-use Rattle.line_texts.specs.Pieces.{split, fieldsFit, entriesIn}
+use Rattle.line_texts.specs.Pieces.{split, gathered, fieldsFit, entriesIn}
 
 abbrev pub isBreak : ℕ → Bool
 isBreak b = eqb b lineFeed || eqb b carriageReturn
 
 -- the k-th byte from the end
-abbrev pub back : ℕ → List ℕ → ℕ
-back k s = getD s (length s - k) 0
+abbrev pub fromEnd : ℕ → List ℕ → ℕ
+fromEnd k s = getD s (length s - k) 0
 
 -- one line ending in nothing, LF, CR, or CR LF: how many bytes its ending has
 unfoldable pub ending : List ℕ → ℕ
 ending s =
-    cond (eqb (back 2 s) carriageReturn && eqb (back 1 s) lineFeed) 2 (cond (isBreak (back 1 s)) 1 0)
+    cond (eqb (fromEnd 2 s) carriageReturn && eqb (fromEnd 1 s) lineFeed) 2 (cond (isBreak (fromEnd 1 s)) 1 0)
 
 abbrev pub content : List ℕ → List ℕ
 content s = take (length s - ending s) s
@@ -59,12 +59,13 @@ tagOf s =
 abbrev pub notALine : Judging
 notALine = Faulty NotACountLine
 
--- head and site are both empty (all sites) or both given
+-- too many fields, even empty ones: 18; head and site are both empty (all sites) or both given
 abbrev pub fieldsMean : ℕ → Tag → List (List ℕ) → Judging
 fieldsMean sep tag ps =
-    notALine unless fieldsFit sep (columns tag) ps then
-    notALine unless sits Missing (columns tag) (entriesIn (columns tag) ps) then
-    Says (record { tag = tag; entries = entriesIn (columns tag) ps })
+    notALine unless leb (length ps) (length (columns tag)) then
+    notALine unless fieldsFit sep (columns tag) (gathered tag ps) then
+    notALine unless sits Missing (columns tag) (entriesIn (columns tag) (gathered tag ps)) then
+    Says (record { tag = tag; entries = entriesIn (columns tag) (gathered tag ps) })
 
 abbrev pub taggedMeans : ℕ → Tagging → List ℕ → Judging
 taggedMeans sep (Known tag) s = fieldsMean sep tag (split sep (drop 4 s))

@@ -1,25 +1,33 @@
 // A line without its ending, and what it means: document 01, "Count lines", Read.
+use super::pieces::cut;
 use super::pieces::fields_fit;
 use super::pieces::fill;
 use answers::Answer;
+use line_layouts::Column;
 use line_layouts::Judged;
 use line_layouts::Line;
 use line_layouts::Tag;
 use line_layouts::Tagging;
 use line_layouts::columns::CARRIAGE_RETURN;
 use line_layouts::columns::LINE_FEED;
+use line_layouts::columns::column_at;
+use line_layouts::columns::column_count;
+use line_layouts::forms::is_beside;
+use line_layouts::judging::is_missing;
 use line_layouts::judging::refused_line;
+use line_layouts::judging::said_at;
 use line_layouts::judging::said_line;
-use line_layouts::laying::is_missing;
-use line_layouts::laying::said_at;
 ghost use mathlib.Core.Path.{_≡_};
+ghost use mathlib.Core.Bool.{not, _||_};
 ghost use mathlib.Core.List.{[], _∷_};
 ghost use Prim.Native.Nat.{_-_, _≤_};
 ghost use lib.ListN.{length, drop};
 ghost use Rattle.line_texts.specs.Pieces.{split};
-ghost use Rattle.line_layouts.specs.Judging.{Taken};
-ghost use Rattle.line_texts.specs.Texts.{isBreak, ending, unbroken, starts, tagOf, fieldsMean, contentMeans};
+ghost use Rattle.line_layouts.specs.Fitting.{isBeside, agree};
+ghost use Rattle.line_layouts.specs.Judging.{heldBy};
+ghost use Rattle.line_texts.specs.Texts.{isBreak, ending, unbroken, starts, tagOf, fieldsMean};
 ghost use Rattle.line_texts.specs.Texts.{Sited};
+ghost use Rattle.line_texts.specs.Places.{lineIn, contentHeld};
 
 fn is_break(b: u8) -> bool
     ensures { λ r. ⌜ r ≡ isBreak b ⌝ }
@@ -102,23 +110,49 @@ fn tag_of(s: &[u8]) -> Tagging
     Tagging::Other
 }
 
+// A field beside another is missing exactly where that one is.
+fn sits_at(column: Column, gone: bool, none: bool) -> bool
+    ensures { λ r. ⌜ r ≡ (not (isBeside (column .3)) || agree gone none) ⌝ }
+{
+    let flag = column.3;
+    if !is_beside(flag) {
+        return true;
+    }
+    if gone { none } else { !none }
+}
+
 fn sites_fit(line: Line) -> bool
     requires { ⌜ length (line .fields) ≡ 7 ⌝ }
     ensures { λ r. ⌜ Sited line r ⌝ }
 {
-    let head = is_missing(said_at(line, 0));
-    let site = is_missing(said_at(line, 1));
-    if head { site } else { !site }
+    let tag = line.tag;
+    let count = column_count(tag);
+    let mut gone = true;
+    let mut j: usize = 0;
+    while j < count {
+        let none = is_missing(said_at(line, j));
+        if !sits_at(column_at(tag, j), gone, none) {
+            return false;
+        }
+        gone = none;
+        j += 1;
+    }
+    true
 }
 
 fn judge_fields(s: &[u8], sep: u8, tag: Tag) -> Judged
     requires { ⌜ 4 ≤ length (now s) ⌝ }
-    ensures { λ r. ⌜ Taken (now (s .entry)) (fieldsMean sep tag (split sep (drop 4 (now (s .entry))))) r ⌝ }
+    ensures { λ r. ⌜ r ≡ heldBy (lineIn sep (now (s .entry)) tag)
+        (fieldsMean sep tag (split sep (drop 4 (now (s .entry))))) ⌝ }
 {
-    if !fields_fit(s, sep, tag) {
+    let pieces = cut(s, sep, tag);
+    if pieces.more {
         return refused_line(Answer::NotACountLine);
     }
-    let line = fill(s, sep, tag);
+    if !fields_fit(s, sep, tag, pieces) {
+        return refused_line(Answer::NotACountLine);
+    }
+    let line = fill(s, sep, tag, pieces);
     if !sites_fit(line) {
         return refused_line(Answer::NotACountLine);
     }
@@ -127,7 +161,7 @@ fn judge_fields(s: &[u8], sep: u8, tag: Tag) -> Judged
 
 // A line without its ending, taken apart, its fields with a separator between them.
 pub fn judge_content(s: &[u8], sep: u8) -> Judged
-    ensures { λ r. ⌜ Taken (now (s .entry)) (contentMeans sep (now (s .entry))) r ⌝ }
+    ensures { λ r. ⌜ r ≡ contentHeld sep (now (s .entry)) ⌝ }
 {
     if !is_unbroken(s) {
         return refused_line(Answer::NotACountLine);

@@ -2,10 +2,17 @@
 pub mod contents;
 mod pieces;
 
-// A piece of a text, by its place and length; where the next one begins, if there are more.
+use values::Name;
+
+// A piece of a text, by its place; where the next one begins, if there are more.
 pub struct Piece {
-    pub at: usize,
-    pub len: usize,
+    pub place: Name,
     pub next: usize,
+    pub more: bool,
+}
+
+// A text behind its tag, cut into as many pieces as the tag has columns; whether there are more.
+pub struct Cut {
+    pub places: [Name; 7],
     pub more: bool,
 }

@@ -1,4 +1,5 @@
 // The fields of a line, one piece of text each.
+use super::Cut;
 use super::Piece;
 use digits::Numeral;
 use line_layouts::Column;
@@ -6,6 +7,7 @@ use line_layouts::Field;
 use line_layouts::Line;
 use line_layouts::Said;
 use line_layouts::Tag;
+use line_layouts::columns::back_at;
 use line_layouts::columns::column_at;
 use line_layouts::columns::column_count;
 use line_layouts::forms::is_name;
@@ -14,14 +16,14 @@ use line_layouts::names::part_allowed;
 use values::Name;
 ghost use mathlib.Core.Path.{_≡_};
 ghost use mathlib.Core.Bool.{true};
-ghost use Prim.Native.Nat.{_+_, _≤_, min};
-ghost use lib.ListN.{length, drop};
+ghost use Prim.Native.Nat.{_+_, _≤_, _<_, min};
+ghost use lib.ListN.{length, getD, drop};
 ghost use Rattle.digits.specs.Digits.{numeral};
 ghost use Rattle.output.specs.Placed.{part};
-ghost use Rattle.line_layouts.specs.Columns.{columns};
+ghost use Rattle.line_layouts.specs.Columns.{columns, back};
 ghost use Rattle.line_layouts.specs.Fitting.{letterFits};
-ghost use Rattle.line_texts.specs.Pieces.{split, numberFits, valueFits, pieceFits, entryIn, fieldsFit};
-ghost use Rattle.line_texts.specs.Pieces.{Ends, Next, numberSaid, Holds, short, Filled};
+ghost use Rattle.line_texts.specs.Pieces.{split, gathered, numberFits, valueFits, pieceFits, fieldsFit};
+ghost use Rattle.line_texts.specs.Places.{noPlace, numberSaid, saidIn, lineIn, Ends, Next, CutAt};
 
 fn number_fits(piece: &[u8], most: u32) -> bool
     ensures { λ r. ⌜ r ≡ numberFits most (numeral (now (piece .entry))) ⌝ }
@@ -84,34 +86,68 @@ fn piece_end(text: &[u8], sep: u8, from: usize) -> usize
     i
 }
 
+// Behind the last piece there are empty ones, which stand nowhere.
 fn piece_at(text: &[u8], sep: u8, from: usize, more: bool) -> Piece
     requires { ⌜ from ≤ length (now text) ⌝ }
     ensures { λ r. ⌜ Next sep (now (text .entry)) from more r ⌝ }
 {
     if !more {
         return Piece {
-            at: from,
-            len: 0,
+            place: Name { at: 0, len: 0 },
             next: from,
             more: false,
         };
     }
     let to = piece_end(text, sep, from);
+    let place = Name {
+        at: from,
+        len: to - from,
+    };
     if to < text.len() {
         Piece {
-            at: from,
-            len: to - from,
+            place,
             next: to + 1,
             more: true,
         }
     } else {
         Piece {
-            at: from,
-            len: to - from,
+            place,
             next: to,
             more: false,
         }
     }
+}
+
+// The text behind a tag, cut at its separators.
+pub fn cut(text: &[u8], sep: u8, tag: Tag) -> Cut
+    requires { ⌜ 4 ≤ length (now text) ⌝ }
+    ensures { λ r. ⌜ CutAt sep (now (text .entry)) tag r ⌝ }
+{
+    let count = column_count(tag);
+    let none = Name { at: 0, len: 0 };
+    let mut places = [none; 7];
+    let mut from: usize = 4;
+    let mut more = true;
+    let mut j: usize = 0;
+    while j < count {
+        let piece = piece_at(text, sep, from, more);
+        let place = piece.place;
+        places[j] = place;
+        from = piece.next;
+        more = piece.more;
+        j += 1;
+    }
+    Cut { places, more }
+}
+
+// The place of the piece that column j takes.
+fn place_of(cut: Cut, tag: Tag, j: usize) -> Name
+    requires { ⌜ j < length (columns tag) ⌝ }
+    ensures { λ r. ⌜ r ≡ getD (cut .places) (getD (back tag) j 0) noPlace ⌝ }
+{
+    let k = back_at(tag, j);
+    let places = cut.places;
+    places[k]
 }
 
 fn fits_at(sep: u8, column: Column, text: &[u8], at: usize, len: usize) -> bool
@@ -122,25 +158,21 @@ fn fits_at(sep: u8, column: Column, text: &[u8], at: usize, len: usize) -> bool
     piece_fits(sep, column, &text[at..end])
 }
 
-// Whether the text behind a tag is one piece for each column at most, each of which fits.
-pub fn fields_fit(text: &[u8], sep: u8, tag: Tag) -> bool
-    requires { ⌜ 4 ≤ length (now text) ⌝ }
-    ensures { λ r. ⌜ r ≡ fieldsFit sep (columns tag) (split sep (drop 4 (now (text .entry)))) ⌝ }
+// Whether the piece of each column fits it.
+pub fn fields_fit(text: &[u8], sep: u8, tag: Tag, cut: Cut) -> bool
+    requires { ⌜ CutAt sep (now text) tag cut ⌝ }
+    ensures { λ r. ⌜ r ≡ fieldsFit sep (columns tag) (gathered tag (split sep (drop 4 (now (text .entry))))) ⌝ }
 {
     let count = column_count(tag);
-    let mut from: usize = 4;
-    let mut more = true;
     let mut j: usize = 0;
     while j < count {
-        let piece = piece_at(text, sep, from, more);
-        if !fits_at(sep, column_at(tag, j), text, piece.at, piece.len) {
+        let place = place_of(cut, tag, j);
+        if !fits_at(sep, column_at(tag, j), text, place.at, place.len) {
             return false;
         }
-        from = piece.next;
-        more = piece.more;
         j += 1;
     }
-    !more
+    true
 }
 
 fn number_said(text: &[u8], most: u32) -> Said
@@ -161,9 +193,8 @@ fn shorter(a: usize, b: usize) -> usize
 
 // What a piece that fits says; of text, no more than is kept.
 fn said_in(sep: u8, column: Column, text: &[u8], at: usize, len: usize) -> Said
-    requires { ⌜ (at + len ≤ length (now text)) × (short column ≡ true)
-        × (pieceFits sep column (part at len (now text)) ≡ true) ⌝ }
-    ensures { λ r. ⌜ Holds (now (text .entry)) r (entryIn column (part at len (now (text .entry)))) ⌝ }
+    requires { ⌜ (at + len ≤ length (now text)) × (pieceFits sep column (part at len (now text)) ≡ true) ⌝ }
+    ensures { λ r. ⌜ r ≡ saidIn column at (part at len (now (text .entry))) ⌝ }
 {
     if len == 0 {
         return Said::Missing;
@@ -180,24 +211,21 @@ fn said_in(sep: u8, column: Column, text: &[u8], at: usize, len: usize) -> Said
 }
 
 // The fields of a text that fits.
-pub fn fill(text: &[u8], sep: u8, tag: Tag) -> Line
-    requires { ⌜ (4 ≤ length (now text)) × (fieldsFit sep (columns tag) (split sep (drop 4 (now text))) ≡ true) ⌝ }
-    ensures { λ r. ⌜ Filled sep (now (text .entry)) tag r ⌝ }
+pub fn fill(text: &[u8], sep: u8, tag: Tag, cut: Cut) -> Line
+    requires { ⌜ CutAt sep (now text) tag cut
+        × (fieldsFit sep (columns tag) (gathered tag (split sep (drop 4 (now text)))) ≡ true) ⌝ }
+    ensures { λ r. ⌜ r ≡ lineIn sep (now (text .entry)) tag ⌝ }
 {
     let count = column_count(tag);
     let none = Field {
         said: Said::Missing,
     };
     let mut fields = [none; 7];
-    let mut from: usize = 4;
-    let mut more = true;
     let mut j: usize = 0;
     while j < count {
-        let piece = piece_at(text, sep, from, more);
-        let said = said_in(sep, column_at(tag, j), text, piece.at, piece.len);
+        let place = place_of(cut, tag, j);
+        let said = said_in(sep, column_at(tag, j), text, place.at, place.len);
         fields[j] = Field { said };
-        from = piece.next;
-        more = piece.more;
         j += 1;
     }
     Line { tag, fields }

@@ -18,10 +18,13 @@ use Rattle.line_layouts.specs.Columns.{separator}
 use Rattle.line_layouts.proofs.Tables.{bar-separates}
 use Rattle.line_texts.proofs.Canonical.{canonical-read}
 use Rattle.lines.specs.Laws.{WrittenOnce, ReadOnce, WrittenRead, WrittenMost, RecordRead}
-use Rattle.lines.specs.Laws.{ThereAndBack, BackAgain, WriteRefused, ReadRefused}
+use Rattle.lines.specs.Laws.{ThereAndBack, OtherOrder, BackAgain, Endings, LongestLine}
+use Rattle.lines.specs.Laws.{WriteRefused, ReadRefused}
 use Rattle.lines.proofs.Most.{text-most}
 use Rattle.lines.proofs.Made as made
 use Rattle.lines.proofs.Rounds as rounds
+use Rattle.lines.proofs.Endings as ending
+use Rattle.lines.proofs.Longest as longest
 
 pub written-once : WrittenOnce
 written-once cpu s old at = equation Outcome (lineWritten cpu s old at)
@@ -41,8 +44,17 @@ record-read = made.record-read
 pub there-and-back : ThereAndBack
 there-and-back = rounds.there-and-back
 
+pub other-order : OtherOrder
+other-order = rounds.other-order
+
 pub back-again : BackAgain
 back-again = rounds.back-again
+
+pub endings : Endings
+endings = ending.endings
+
+pub longest-line : LongestLine
+longest-line = longest.longest-line
 
 -- ---- a refusal
 

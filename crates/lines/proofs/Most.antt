@@ -3,11 +3,11 @@
 use mathlib.Core.Path.{_≡_, refl, ap, _∙_}
 use mathlib.Core.Bool.{Bool, true, false, cond, not, _&&_, _||_}
 use mathlib.Core.List.{List, [], _∷_, _++_}
-use Prim.Native.Nat.{ℕ, suc, _+_, _/_, _≤_}
+use Prim.Native.Nat.{ℕ, zero, suc, _+_, _/_, _≤_, _<_}
 use native.Mathlib.Omega.{arith}
 use borrow.Author.Tests.{ltb-true, ltb-false, leb-true, not-true}
 use lib.Dec.{ltb, leb}
-use lib.ListN.{length, length-append}
+use lib.ListN.{length, getD, length-append}
 use Rattle.prelude.proofs.Never.{false-true}
 use Rattle.prelude.proofs.Both.{both-left, both-right}
 use Rattle.digits.specs.Digits.{digits}
@@ -16,11 +16,12 @@ use Rattle.line_layouts.specs.declared.Tag.{Tag}
 use Rattle.line_layouts.specs.declared.Tag.the-variants.{Pcr, Hbr, Sbr}
 use Rattle.line_layouts.specs.declared.Column.{Column}
 use Rattle.line_layouts.specs.declared.Layout.the-variants as layout
-use Rattle.line_layouts.specs.Columns.{tagText, columns, noColumn}
+use Rattle.line_layouts.specs.Arranging.{arranged, allBelow}
+use Rattle.line_layouts.specs.Columns.{tagText, columns, noColumn, order}
 use Rattle.line_layouts.specs.Entries.{Entry, Missing, Number, Text, Meaning, kept, present}
 use Rattle.line_layouts.specs.Layouts.{isName, entryText, mark, isLast, laid, textBy}
 use Rattle.line_layouts.specs.Fitting.{isNumber, letterFits, entryFits, entriesFit, Fitting}
-use Rattle.line_texts.proofs.Canonical.{in-order}
+use Rattle.line_layouts.proofs.Tables.{turned}
 
 -- a greater number has no fewer digits
 digits-rising : (m n : ℕ) → n ≤ m → length (digits n) ≤ length (digits m)
@@ -91,17 +92,36 @@ laid-most sep (c ∷ cs) (x ∷ es) e =
     let behind = laid-most sep cs es (both-right (entryFits c x) (entriesFit cs es) e) in
     omega (arith, laid-kept sep c cs x (present 0 es), here, behind)
 
-length-fit : (cs : List Column) (es : List Entry) → entriesFit cs es ≡ true → length es ≡ length cs
-length-fit [] [] e = refl
-length-fit [] (x ∷ es) e = false-true e
-length-fit (c ∷ cs) [] e = false-true e
-length-fit (c ∷ cs) (x ∷ es) e = ap suc (length-fit cs es (both-right (entryFits c x) (entriesFit cs es) e))
+-- entries that fit their columns fit them in any order of both
+module _ (cs : List Column) (es : List Entry) (fit : entriesFit cs es ≡ true) where
+  fit-at : (i : ℕ) → i < length cs → entryFits (getD cs i noColumn) (getD es i Missing) ≡ true
+  fit-at i h = go cs es i fit h
+    where
+      go : (cs : List Column) (es : List Entry) (i : ℕ) → entriesFit cs es ≡ true → i < length cs
+          → entryFits (getD cs i noColumn) (getD es i Missing) ≡ true
+      go [] es i e h = absurd (omega arith)
+      go (c ∷ cs) [] i e h = false-true e
+      go (c ∷ cs) (x ∷ es) zero e h = both-left (entryFits c x) (entriesFit cs es) e
+      go (c ∷ cs) (x ∷ es) (suc i) e h = go cs es i (both-right (entryFits c x) (entriesFit cs es) e) (omega arith)
 
-total-most : (tag : Tag) → total (columns tag) ≤ 283
+  fit-arranged : (o : List ℕ) → allBelow (length cs) o ≡ true
+      → entriesFit (arranged noColumn o cs) (arranged Missing o es) ≡ true
+  fit-arranged [] below = refl
+  fit-arranged (i ∷ o) below =
+      rw (
+        fit-at i (ltb-true i (length cs) (both-left (ltb i (length cs)) (allBelow (length cs) o) below)),
+        fit-arranged o (both-right (ltb i (length cs)) (allBelow (length cs) o) below),
+      )
+
+-- the columns of a line, in the order of the text
+abbrev texted : Tag → List Column
+texted tag = arranged noColumn (order tag) (columns tag)
+
+total-most : (tag : Tag) → total (texted tag) ≤ 283
 unfolding digits
-total-most Pcr = leb-true (total (columns Pcr)) 283 refl
-total-most Hbr = leb-true (total (columns Hbr)) 283 refl
-total-most Sbr = leb-true (total (columns Sbr)) 283 refl
+total-most Pcr = leb-true (total (texted Pcr)) 283 refl
+total-most Hbr = leb-true (total (texted Hbr)) 283 refl
+total-most Sbr = leb-true (total (texted Sbr)) 283 refl
 
 tag-size : (tag : Tag) → length (tagText tag) ≡ 4
 tag-size Pcr = refl
@@ -111,13 +131,12 @@ tag-size Sbr = refl
 pub text-most : (sep : ℕ) (m : Meaning) → Fitting m → length (textBy sep m) ≤ 287
 text-most sep m fit =
     let tag = m .tag in
-    let cs = columns tag in
-    let size = length-fit cs (m .entries) (fit .0) in
-    rw (in-order Column noColumn tag cs refl, in-order Entry Missing tag (m .entries) size)
-    (omega (
+    let cs = texted tag in
+    let es = arranged Missing (order tag) (m .entries) in
+    omega (
       arith,
-      length-append (tagText tag) (laidText sep cs (present 0 (m .entries))),
+      length-append (tagText tag) (laidText sep cs (present 0 es)),
       tag-size tag,
-      laid-most sep cs (m .entries) (fit .0),
+      laid-most sep cs es (fit-arranged (columns tag) (m .entries) (fit .0) (order tag) (turned tag .order-in)),
       total-most tag,
-    ))
+    )

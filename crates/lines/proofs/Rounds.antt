@@ -37,7 +37,7 @@ use Rattle.line_texts.proofs.Canonical.{canonical-read, read-tells}
 use Rattle.line_texts.proofs.Tellings.{optional-columns, tell-fits, tell-allowed, fits-tell}
 use Rattle.lines.specs.Writing.{textMade}
 use Rattle.lines.specs.Reading.{recordIn}
-use Rattle.lines.specs.Laws.{ReadBack, WrittenBack, ThereAndBack, BackAgain}
+use Rattle.lines.specs.Laws.{ReadBack, WrittenBack, ThereAndBack, OtherOrder, BackAgain}
 use Rattle.lines.proofs.Made.{record-read}
 
 -- ---- what a record says that can be written is what a line says, and the other way
@@ -75,26 +75,31 @@ line-fits m t = (tell-fits separator (columns (m .tag)) (m .entries) (t .0), t .
 
 -- ---- a record to its line, and back
 
-there : (cpu : ℕ) (order : Order) → orderOf cpu ≡ ordering.Known order → (s old : List ℕ) (at n : ℕ) (new : List ℕ)
-    → (j : Judging) → meaning order s ≡ j → placed (textMade separator j) old at ≡ outcome (written.Bytes n) new
-    → ReadBack cpu order s (part at n new)
-there cpu order is s old at n new (Faulty answer) means e = refused-bytes answer old n new e
-there cpu order is s old at n new (Says m) means e = go (each (entryAllowed separator) (m .entries)) refl
+there : (other : ℕ) (second : Order) → orderOf other ≡ ordering.Known second
+    → (order : Order) (s old : List ℕ) (at n : ℕ) (new : List ℕ) (j : Judging) → meaning order s ≡ j
+    → placed (textMade separator j) old at ≡ outcome (written.Bytes n) new
+    → ReadBack other second (meaning order s) (part at n new)
+there other second is order s old at n new (Faulty answer) means e = refused-bytes answer old n new e
+there other second is order s old at n new (Says m) means e = go (each (entryAllowed separator) (m .entries)) refl
   where
-    go : (t : Bool) → each (entryAllowed separator) (m .entries) ≡ t → ReadBack cpu order s (part at n new)
+    go : (t : Bool) → each (entryAllowed separator) (m .entries) ≡ t
+        → ReadBack other second (meaning order s) (part at n new)
     go false f = refused-bytes NameNotText old n new (rw f at e)
     go true f =
         let text = placed-part (textOf m) old at n new (rw f at e) in
         let read = canonical-read separator bar-separates m (record-tells order s m means f) in
         record {
-          made = recordOf order m;
+          made = recordOf second m;
           reads = λ (o : List ℕ) (a : ℕ). rw (text, is, read);
-          same = record-read order m (record-fits order s m means) ∙ sym means;
+          same = record-read second m (record-fits order s m means) ∙ sym means;
         }
 
+pub other-order : OtherOrder
+other-order cpu order is other second told s old at n new e =
+    there other second told order s old at n new (meaning order s) refl (rw is at e)
+
 pub there-and-back : ThereAndBack
-there-and-back cpu order is s old at n new e =
-    there cpu order is s old at n new (meaning order s) refl (rw is at e)
+there-and-back cpu order is s old at n new e = other-order cpu order is cpu order is s old at n new e
 
 -- ---- a line to its record, and back
 
@@ -108,10 +113,14 @@ again cpu (ordering.Known order) is line old at n new (Says m) means e =
     let s = placed-part (recordOf order m) old at n new (rw means at e) in
     let tell = read-tells separator bar-separates line m means in
     let ok = tell-allowed separator (columns (m .tag)) (m .entries) (tell .0) in
+    let read = record-read order m (line-fits m tell) in
     record {
+      order = order;
+      told = is;
+      keeps = rw s (read ∙ sym means);
       said = m;
       means = means;
-      writes = λ (o : List ℕ) (a : ℕ). rw (s, is, record-read order m (line-fits m tell), ok);
+      writes = λ (o : List ℕ) (a : ℕ). rw (s, is, read, ok);
       same = canonical-read separator bar-separates m tell ∙ sym means;
     }
 

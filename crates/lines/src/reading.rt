@@ -1,7 +1,8 @@
 // From a line to its record: document 01, "Count lines", Read.
+use crate::refuse;
+use line_laying::place;
 use line_layouts::Fault;
 use line_layouts::Layout;
-use line_layouts::laying::place;
 use line_texts::contents::ending_of;
 use line_texts::contents::judge_content;
 use numbers::Order;
@@ -19,7 +20,7 @@ fn read_content(out: &mut [u8], at: usize, order: Order, sep: u8, s: &[u8]) -> W
     let fault = judged.fault;
     let line = judged.line;
     match fault {
-        Fault::Found(answer) => Written::Refused(answer),
+        Fault::Found(answer) => refuse(out, answer),
         Fault::None => place(out, at, Layout::Record(order), s, line),
     }
 }

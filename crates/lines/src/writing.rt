@@ -1,12 +1,13 @@
 // From a record to its line: document 01, "Count lines", Written.
+use crate::refuse;
 use answers::Answer;
+use line_laying::place;
 use line_layouts::Fault;
 use line_layouts::Layout;
 use line_layouts::Line;
 use line_layouts::Said;
 use line_layouts::columns::column_count;
-use line_layouts::laying::place;
-use line_layouts::laying::said_at;
+use line_layouts::judging::said_at;
 use line_layouts::names::part_allowed;
 use line_records::judge_record;
 use numbers::Order;
@@ -59,7 +60,7 @@ fn write_said(out: &mut [u8], at: usize, sep: u8, source: &[u8], line: Line) -> 
     if line_allowed(sep, source, line) {
         place(out, at, Layout::Text(sep), source, line)
     } else {
-        Written::Refused(Answer::NameNotText)
+        refuse(out, Answer::NameNotText)
     }
 }
 
@@ -71,7 +72,7 @@ pub fn write_in(out: &mut [u8], at: usize, order: Order, sep: u8, record: &[u8])
     let fault = judged.fault;
     let line = judged.line;
     match fault {
-        Fault::Found(answer) => Written::Refused(answer),
+        Fault::Found(answer) => refuse(out, answer),
         Fault::None => write_said(out, at, sep, &record[4..], line),
     }
 }

@@ -1,5 +1,6 @@
 -- The marked cases, M1 to M12, as one table. Document 01, "Marked cases".
 --
+--   Shown    what comes of a case: the numbers of answers, the bytes of a record, or a line's refusal
 --   Case     calls of a house, or a line to be read, and what document 01 marks
 --   found    what the definitions say of a case, and marked what document 01 says
 --   table    the cases
@@ -23,29 +24,34 @@ use Rattle.house.specs.declared.House.{House}
 use Rattle.house.specs.declared.Slot.{Slot}
 use Rattle.house.specs.House.{rowCount, closedSlot, fresh}
 use Rattle.house.specs.History.{Call, Open, Deliver, Close, history}
-use Rattle.marked.specs.Night.{prr, begins, answersOf}
+use Rattle.marked.specs.Night.{pir, prr, begins, answersOf}
 use Rattle.marked.specs.Night as night
 
--- the numbers that calls of a house are answered with; the bytes that a line is read into, or the number it is refused
--- with, in the order of a CPU_TYPE
+-- a refusal's number is no byte that is written
+pub data Shown : Type 0 where
+  Answers : List ℕ → Shown
+  Wrote : List ℕ → Shown
+  Refusal : ℕ → Shown
+
+-- the numbers that calls of a house are answered with; what a line is read into, in the order of a CPU_TYPE
 pub data Case : Type 0 where
   Asked : House → List Call → List ℕ → Case
-  Reads : ℕ → List ℕ → List ℕ → Case
+  Reads : ℕ → List ℕ → Shown → Case
 
-abbrev pub readInto : Written → List ℕ → List ℕ
-readInto (written.Bytes n) out = part 0 n out
-readInto (written.Refused a) out = numberOf a ∷ []
+abbrev pub readInto : Written → List ℕ → Shown
+readInto (written.Bytes n) out = Wrote (part 0 n out)
+readInto (written.Refused a) out = Refusal (numberOf a)
 
-abbrev pub byOutcome : Outcome → List ℕ
+abbrev pub byOutcome : Outcome → Shown
 byOutcome o = readInto (o .answer) (o .output)
 
-abbrev pub found : Case → List ℕ
-found (Asked h calls ns) = answersOf (history h calls)
-found (Reads cpu line ns) = byOutcome (lineRead cpu line (replicate 64 0) 0)
+abbrev pub found : Case → Shown
+found (Asked h calls ns) = Answers (answersOf (history h calls))
+found (Reads cpu line shown) = byOutcome (lineRead cpu line (replicate 64 0) 0)
 
-abbrev pub marked : Case → List ℕ
-marked (Asked h calls ns) = ns
-marked (Reads cpu line ns) = ns
+abbrev pub marked : Case → Shown
+marked (Asked h calls ns) = Answers ns
+marked (Reads cpu line shown) = shown
 
 -- ---- what the cases are made of
 
@@ -130,27 +136,31 @@ table =
     (Open 0 0 ∷ begins 0
     ++ (Deliver 0 (pcr 6) ∷ Deliver 0 (pcr 10) ∷ Deliver 0 (pcr 7) ∷ Deliver 0 (pcr 23) ∷ []))
     (zeros 5 ++ (7 ∷ 7 ∷ [])) ∷
-    -- M6: the second gets 24 rows and no 25th, the first its thousandth and no more
-    Asked fresh (Open 0 1000 ∷ Open 1 0 ∷ begins 1 ++ parts 1 1 25 ++ begins 0 ++ parts 0 1 2)
-    (zeros 53 ++ (13 ∷ zeros 6)) ∷
+    -- M6 to M8, one history. M6: the second gets 24 rows and no 25th, the first still gets its own. M7: then floor 1
+    -- and floor 0; once the second closes, floor 24. M8: the part of a PRR refused with 13 is still open, and the same
+    -- PRR passes once there is room
+    Asked fresh
+    ((Open 0 1000 ∷ Open 1 0 ∷ begins 1) ++ parts 1 1 25 ++ begins 0 ++ parts 0 1 2
+    ++ (Open 2 1 ∷ Open 3 0 ∷ begins 3) ++ night.part 3 7 ++ (Deliver 3 (pir 1 1) ∷ [])
+    ++ (Close 1 ∷ Open 2 24 ∷ Close 2 ∷ Deliver 3 (prr 1 1 7) ∷ []))
+    (zeros 53 ++ (13 ∷ zeros 6) ++ (13 ∷ zeros 4) ++ (13 ∷ 9 ∷ zeros 4)) ∷
+    -- .. and of M6 the first's thousandth row, and no more
     Asked (held 999) (night.part 1 25 ++ night.part 0 0 ++ night.part 0 200)
     (0 ∷ 13 ∷ 0 ∷ 0 ∷ 0 ∷ 13 ∷ []) ∷
-    -- M7: then floor 1 and floor 0; once the second closes, floor 24
-    Asked (held 0) (Open 2 1 ∷ Open 3 0 ∷ Close 1 ∷ Open 2 24 ∷ []) (13 ∷ 0 ∷ 0 ∷ 0 ∷ []) ∷
-    -- M8: the part of a PRR refused with 13 is still open, and passes once there is room
-    Asked (held 999) (night.part 0 0 ++ night.part 1 25 ++ (Close 0 ∷ Deliver 1 (prr 1 1 25) ∷ []))
-    (0 ∷ 0 ∷ 0 ∷ 13 ∷ 0 ∷ 0 ∷ []) ∷
     -- M9 to M12: lines
     Reads 1 m9
+    (Wrote
     (0x00 ∷ 0x16 ∷ 0x01 ∷ 0x1E ∷ 0x02 ∷ 0x01 ∷ 0x00 ∷ 0x00 ∷ 0x01 ∷ 0xF1 ∷ 0x00 ∷ 0x00 ∷ 0x00 ∷ 0x05 ∷ 0x00 ∷ 0x00
-    ∷ 0x00 ∷ 0x0B ∷ 0x00 ∷ 0x00 ∷ 0x00 ∷ 0xD4 ∷ 0x00 ∷ 0x00 ∷ 0x01 ∷ 0xE1 ∷ []) ∷
+    ∷ 0x00 ∷ 0x0B ∷ 0x00 ∷ 0x00 ∷ 0x00 ∷ 0xD4 ∷ 0x00 ∷ 0x00 ∷ 0x01 ∷ 0xE1 ∷ [])) ∷
     Reads 2 m10
+    (Wrote
     (0x0F ∷ 0x00 ∷ 0x01 ∷ 0x28 ∷ 0x02 ∷ 0x01 ∷ 0x06 ∷ 0x00 ∷ 0xD4 ∷ 0x00 ∷ 0x00 ∷ 0x00 ∷ 0x46 ∷ 0x05 ∷ 0x53 ∷ 0x48
-    ∷ 0x4F ∷ 0x52 ∷ 0x54 ∷ []) ∷
+    ∷ 0x4F ∷ 0x52 ∷ 0x54 ∷ [])) ∷
     Reads 1 m11
+    (Wrote
     (0x00 ∷ 0x16 ∷ 0x01 ∷ 0x1E ∷ 0xFF ∷ 0xFF ∷ 0x00 ∷ 0x00 ∷ 0x0F ∷ 0x88 ∷ 0x00 ∷ 0x00 ∷ 0x00 ∷ 0x36 ∷ 0x00 ∷ 0x00
-    ∷ 0x00 ∷ 0x4C ∷ 0x00 ∷ 0x00 ∷ 0x09 ∷ 0x07 ∷ 0x00 ∷ 0x00 ∷ 0x0E ∷ 0xE1 ∷ []) ∷
-    Reads 1 m12 (18 ∷ []) ∷
+    ∷ 0x00 ∷ 0x4C ∷ 0x00 ∷ 0x00 ∷ 0x09 ∷ 0x07 ∷ 0x00 ∷ 0x00 ∷ 0x0E ∷ 0xE1 ∷ [])) ∷
+    Reads 1 m12 (Refusal 18) ∷
     []
 
 -- each case of the table is as document 01 marks it

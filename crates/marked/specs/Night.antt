@@ -54,7 +54,7 @@ NightAnswers = answersOf (history fresh night)
 abbrev pub NightTally : Type 0
 NightTally = tallied 0 (history fresh night) ≡ record { head = 1; site = 1; bin = 3; count = 2 } ∷ []
 
--- the promise of isolation covers slot 0's eleven calls, its report among them
+-- the promise of isolation covers slot 0's seven calls after its opening, its report among them
 abbrev pub NightAssured : Type 0
 NightAssured = assured 0 (after fresh (Open 0 1023))
     (Open 1 0 ∷ begins 1 ++ part 1 7 ++ begins 0 ++ part 0 3 ++ part 1 5 ++ part 0 3 ++ (Report 0 8 ∷ []))

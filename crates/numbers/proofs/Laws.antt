@@ -2,7 +2,7 @@
 -- Assumes nothing.
 use mathlib.Core.Path.{_≡_, refl, ap, _∙_}
 use mathlib.Core.Bool.{Bool, true, false}
-use mathlib.Core.List.{List, [], _∷_, reverseAux, reverse-reverse}
+use mathlib.Core.List.{List, [], _∷_, _++_, reverseAux, reverse-reverse}
 use Prim.Native.Nat.{ℕ, zero, suc, _+_, _-_, _*_, _/_, _%_, _^_, _≤_, _<_}
 use native.Mathlib.Nat.{zero-add, add-zero, add-suc}
 use native.Mathlib.Omega.{arith}
@@ -101,6 +101,15 @@ part-bytes s at n low k = go (ltb k n) refl
           List·getD-eq-default (take n (drop at s)) 0 {n = k}
               (omega (arith, ltb-false k n e, length-take n (drop at s))),
         )
+
+-- so is what is left of bytes, and bytes one after the other
+pub bytes-drop : (n : ℕ) (s : List ℕ) → Bytes s → Bytes (drop n s)
+bytes-drop n s h k = rw (getD-drop n s k 0) (h (n + k))
+
+pub bytes-append : (s t : List ℕ) → Bytes s → Bytes t → Bytes (s ++ t)
+bytes-append [] t hs ht k = ht k
+bytes-append (b ∷ s) t hs ht zero = hs 0
+bytes-append (b ∷ s) t hs ht (suc k) = bytes-append s t (λ j. hs (suc j)) ht k
 
 -- one byte is written as itself in either order
 pub one-written : (order : Order) (n : ℕ) → n < 256 → written order 1 n ≡ n ∷ []

@@ -1,10 +1,8 @@
--- The statements of specs/Laws.antt, proved. A law of one row of the table serves every row: only its last two
--- columns lead to the body and beyond.
+-- The statements of specs/Laws.antt, proved. Where a row or a column of the table leads to no place that meets a test
+-- is computed, step by step.
 -- Assumes nothing.
-use mathlib.Core.Path.{_≡_, refl, ap, subst}
-use mathlib.Core.Bool.{Bool, true, false}
-use Prim.Native.Nat.{ℕ}
-use native.Mathlib.Omega.{arith}
+use mathlib.Core.Path.{_≡_, refl, ap, sym, _∙_}
+use mathlib.Core.Bool.{Bool, true, false, not, false≢true}
 use Rattle.kinds.specs.declared.Kind.{Kind}
 use Rattle.kinds.specs.declared.Kind.the-variants.{Far, Atr, Mir, Mrr, Pcr, Hbr, Sbr, Rdr, Sdr, Pir, Prr, Remaining}
 use Rattle.kinds.specs.declared.Kind.the-variants.{Custom, Unknown}
@@ -13,135 +11,108 @@ use Rattle.order.specs.declared.Place.the-variants.{Start, Header, Lot, 
 use Rattle.order.specs.declared.Step.{Step}
 use Rattle.order.specs.declared.Step.the-variants.{To, OutOfPlace}
 use Rattle.order.specs.Order.{byKind, goes, byPlace}
+use Rattle.order.specs.Spelled.{wordOf}
 use Rattle.order.specs.Laws.{before, ended, opening, BeforeByOpening, EndedByMrr, NeverBack, NeverStart}
 use Rattle.order.specs.Laws.{ByColumn}
 
--- ---- one row of the table
+-- ---- the kinds that the order tells apart
 
--- a step after which a test of the place fails
-abbrev Never : (Place → Bool) → Step → Type 0
-Never test s = (q : Place) → s ≡ To q → test q ≡ true → ⊥
+-- what the sentence and the table know of a kind that neither names
+pub record Other (k : Kind) : Type 0 where
+  pub word : wordOf k ≡ 0
+  pub alike : (p : Place) → goes p k ≡ goes p Pcr
 
-never-out : (test : Place → Bool) → Never test OutOfPlace
-never-out test q e h = let z : _≡_ {A = ℕ} 0 1 = cc in omega arith
+other-by : (k : Kind) → wordOf k ≡ 0 → ((a b c d e f g : Step) → byKind a b c d e f g k ≡ g) → Other k
+other-by k word last = record { word = word; alike = go }
+  where
+    go : (p : Place) → goes p k ≡ goes p Pcr
+    go Start = last _ _ _ _ _ _ _
+    go Header = last _ _ _ _ _ _ _
+    go Lot = last _ _ _ _ _ _ _
+    go Setup = last _ _ _ _ _ _ _
+    go Body = last _ _ _ _ _ _ _
+    go Ended = refl
 
-never-to : (test : Place → Bool) (p : Place) → test p ≡ false → Never test (To p)
-never-to test p f q e h =
-    let same : q ≡ p = cc in
-    let holds : test p ≡ true = subst (λ (r : Place). test r ≡ true) same h in
-    let z : _≡_ {A = ℕ} 0 1 = cc in
-    omega arith
+-- a kind is one of the six that the order names, or any other
+module _ (P : Kind → Type 0) (others : (k : Kind) → Other k → P k) where
+  pub by-word : P Far → P Atr → P Mir → P Rdr → P Sdr → P Mrr → (k : Kind) → P k
+  by-word far atr mir rdr sdr mrr Far = far
+  by-word far atr mir rdr sdr mrr Atr = atr
+  by-word far atr mir rdr sdr mrr Mir = mir
+  by-word far atr mir rdr sdr mrr Rdr = rdr
+  by-word far atr mir rdr sdr mrr Sdr = sdr
+  by-word far atr mir rdr sdr mrr Mrr = mrr
+  by-word far atr mir rdr sdr mrr Pcr = others Pcr (other-by Pcr refl (λ a b c d e f g. refl))
+  by-word far atr mir rdr sdr mrr Hbr = others Hbr (other-by Hbr refl (λ a b c d e f g. refl))
+  by-word far atr mir rdr sdr mrr Sbr = others Sbr (other-by Sbr refl (λ a b c d e f g. refl))
+  by-word far atr mir rdr sdr mrr Pir = others Pir (other-by Pir refl (λ a b c d e f g. refl))
+  by-word far atr mir rdr sdr mrr Prr = others Prr (other-by Prr refl (λ a b c d e f g. refl))
+  by-word far atr mir rdr sdr mrr (Remaining k) =
+      others (Remaining k) (other-by (Remaining k) refl (λ a b c d e f g. refl))
+  by-word far atr mir rdr sdr mrr Custom = others Custom (other-by Custom refl (λ a b c d e f g. refl))
+  by-word far atr mir rdr sdr mrr Unknown = others Unknown (other-by Unknown refl (λ a b c d e f g. refl))
 
--- only the first five columns may lead before the body
-module _ (far atr mir rdr sdr mrr other : Step) where
-  row-before : Never before mrr → Never before other
-      → (q : Place) (k : Kind) → byKind far atr mir rdr sdr mrr other k ≡ To q → before q ≡ true → opening k ≡ true
-  row-before m o q Far e h = refl
-  row-before m o q Atr e h = refl
-  row-before m o q Mir e h = refl
-  row-before m o q Rdr e h = refl
-  row-before m o q Sdr e h = refl
-  row-before m o q Mrr e h = absurd (m q e h)
-  row-before m o q Pcr e h = absurd (o q e h)
-  row-before m o q Hbr e h = absurd (o q e h)
-  row-before m o q Sbr e h = absurd (o q e h)
-  row-before m o q Pir e h = absurd (o q e h)
-  row-before m o q Prr e h = absurd (o q e h)
-  row-before m o q (Remaining k) e h = absurd (o q e h)
-  row-before m o q Custom e h = absurd (o q e h)
-  row-before m o q Unknown e h = absurd (o q e h)
+-- ---- steps that miss
 
--- only MRR's column ends a stream
-module _ (far atr mir rdr sdr mrr other : Step) where
-  row-ended : Never ended far → Never ended atr → Never ended mir → Never ended rdr → Never ended sdr
-      → Never ended other
-      → (q : Place) (k : Kind) → byKind far atr mir rdr sdr mrr other k ≡ To q → ended q ≡ true → k ≡ Mrr
-  row-ended f a m r s o q Far e h = absurd (f q e h)
-  row-ended f a m r s o q Atr e h = absurd (a q e h)
-  row-ended f a m r s o q Mir e h = absurd (m q e h)
-  row-ended f a m r s o q Rdr e h = absurd (r q e h)
-  row-ended f a m r s o q Sdr e h = absurd (s q e h)
-  row-ended f a m r s o q Mrr e h = refl
-  row-ended f a m r s o q Pcr e h = absurd (o q e h)
-  row-ended f a m r s o q Hbr e h = absurd (o q e h)
-  row-ended f a m r s o q Sbr e h = absurd (o q e h)
-  row-ended f a m r s o q Pir e h = absurd (o q e h)
-  row-ended f a m r s o q Prr e h = absurd (o q e h)
-  row-ended f a m r s o q (Remaining k) e h = absurd (o q e h)
-  row-ended f a m r s o q Custom e h = absurd (o q e h)
-  row-ended f a m r s o q Unknown e h = absurd (o q e h)
+-- a step that leads nowhere, or to a place that fails a test
+abbrev misses : (Place → Bool) → Step → Bool
+misses test (To p) = not (test p)
+misses test OutOfPlace = true
 
--- ---- every row
+missed : (test : Place → Bool) (s : Step) (q : Place) → misses test s ≡ true → s ≡ To q → test q ≡ true → ⊥
+missed test s q m e h =
+    let fails : not (test q) ≡ true = rw e at m in
+    false≢true (rw h at fails)
 
-out-before : Never before OutOfPlace
-out-before = never-out before
+module _ (test : Place → Bool) where
+  -- a column: one kind, from every place
+  column : (k : Kind) → misses test (goes Start k) ≡ true → misses test (goes Header k) ≡ true
+      → misses test (goes Lot k) ≡ true → misses test (goes Setup k) ≡ true → misses test (goes Body k) ≡ true
+      → (p q : Place) → goes p k ≡ To q → test q ≡ true → ⊥
+  column k start header lot setup body Start q = missed test (goes Start k) q start
+  column k start header lot setup body Header q = missed test (goes Header k) q header
+  column k start header lot setup body Lot q = missed test (goes Lot k) q lot
+  column k start header lot setup body Setup q = missed test (goes Setup k) q setup
+  column k start header lot setup body Body q = missed test (goes Body k) q body
+  column k start header lot setup body Ended q = missed test OutOfPlace q refl
 
-body-before : Never before (To Body)
-body-before = never-to before Body refl
+  -- a row: one place, by every kind
+  row : (p : Place) → misses test (goes p Far) ≡ true → misses test (goes p Atr) ≡ true
+      → misses test (goes p Mir) ≡ true → misses test (goes p Rdr) ≡ true → misses test (goes p Sdr) ≡ true
+      → misses test (goes p Mrr) ≡ true → misses test (goes p Pcr) ≡ true
+      → (q : Place) (k : Kind) → goes p k ≡ To q → test q ≡ true → ⊥
+  row p far atr mir rdr sdr mrr rest q k =
+      missed test (goes p k) q
+      (by-word (λ (j : Kind). misses test (goes p j) ≡ true) (λ j o. rw (o .alike p) rest)
+      far atr mir rdr sdr mrr k)
 
-ended-before : Never before (To Ended)
-ended-before = never-to before Ended refl
+-- ---- the laws
 
 pub before-by-opening : BeforeByOpening
-before-by-opening Start q k e h = row-before _ _ _ _ _ _ _ out-before out-before q k e h
-before-by-opening Header q k e h = row-before _ _ _ _ _ _ _ out-before out-before q k e h
-before-by-opening Lot q k e h = row-before _ _ _ _ _ _ _ ended-before body-before q k e h
-before-by-opening Setup q k e h = row-before _ _ _ _ _ _ _ ended-before body-before q k e h
-before-by-opening Body q k e h = row-before _ _ _ _ _ _ _ ended-before body-before q k e h
-before-by-opening Ended q k e h = absurd (out-before q e h)
+before-by-opening p q =
+    by-word (λ (j : Kind). goes p j ≡ To q → before q ≡ true → opening j ≡ true)
+    (λ j o e h. absurd (column before Pcr refl refl refl refl refl p q (sym (o .alike p) ∙ e) h))
+    (λ e h. refl) (λ e h. refl) (λ e h. refl) (λ e h. refl) (λ e h. refl)
+    (λ e h. absurd (column before Mrr refl refl refl refl refl p q e h))
 
--- a row of which no column leads to a place that meets a test
-module _ (test : Place → Bool) (far atr mir rdr sdr mrr other : Step) where
-  row-never : Never test far → Never test atr → Never test mir → Never test rdr → Never test sdr → Never test mrr
-      → Never test other
-      → (q : Place) (k : Kind) → byKind far atr mir rdr sdr mrr other k ≡ To q → test q ≡ true → ⊥
-  row-never f a m r s e o q Far = f q
-  row-never f a m r s e o q Atr = a q
-  row-never f a m r s e o q Mir = m q
-  row-never f a m r s e o q Rdr = r q
-  row-never f a m r s e o q Sdr = s q
-  row-never f a m r s e o q Mrr = e q
-  row-never f a m r s e o q Pcr = o q
-  row-never f a m r s e o q Hbr = o q
-  row-never f a m r s e o q Sbr = o q
-  row-never f a m r s e o q Pir = o q
-  row-never f a m r s e o q Prr = o q
-  row-never f a m r s e o q (Remaining k) = o q
-  row-never f a m r s e o q Custom = o q
-  row-never f a m r s e o q Unknown = o q
+pub ended-by-mrr : EndedByMrr
+ended-by-mrr p q =
+    by-word (λ (j : Kind). goes p j ≡ To q → ended q ≡ true → j ≡ Mrr)
+    (λ j o e h. absurd (column ended Pcr refl refl refl refl refl p q (sym (o .alike p) ∙ e) h))
+    (λ e h. absurd (column ended Far refl refl refl refl refl p q e h))
+    (λ e h. absurd (column ended Atr refl refl refl refl refl p q e h))
+    (λ e h. absurd (column ended Mir refl refl refl refl refl p q e h))
+    (λ e h. absurd (column ended Rdr refl refl refl refl refl p q e h))
+    (λ e h. absurd (column ended Sdr refl refl refl refl refl p q e h))
+    (λ e h. refl)
 
 pub never-back : NeverBack
 never-back Start q k e h = refl
 never-back Header q k e h = refl
 never-back Lot q k e h = refl
 never-back Setup q k e h = refl
-never-back Body q k e h =
-    absurd
-    (row-never before _ _ _ _ _ _ _ out-before out-before out-before out-before out-before ended-before body-before q
-    k e h)
-never-back Ended q k e h = absurd (out-before q e h)
-
-out-ended : Never ended OutOfPlace
-out-ended = never-out ended
-
-to-ended : (p : Place) → ended p ≡ false → Never ended (To p)
-to-ended p f = never-to ended p f
-
-pub ended-by-mrr : EndedByMrr
-ended-by-mrr Start q k e h =
-    row-ended _ _ _ _ _ _ _ (to-ended Header refl) out-ended out-ended out-ended out-ended out-ended q k e h
-ended-by-mrr Header q k e h =
-    row-ended _ _ _ _ _ _ _ out-ended (to-ended Header refl) (to-ended Lot refl) out-ended out-ended out-ended q k e h
-ended-by-mrr Lot q k e h =
-    row-ended _ _ _ _ _ _ _ out-ended out-ended out-ended (to-ended Setup refl) (to-ended Setup refl)
-    (to-ended Body refl) q k e h
-ended-by-mrr Setup q k e h =
-    row-ended _ _ _ _ _ _ _ out-ended out-ended out-ended out-ended (to-ended Setup refl) (to-ended Body refl) q k e h
-ended-by-mrr Body q k e h =
-    row-ended _ _ _ _ _ _ _ out-ended out-ended out-ended out-ended out-ended (to-ended Body refl) q k e h
-ended-by-mrr Ended q k e h = absurd (out-ended q e h)
-
--- ---- the start
+never-back Body q k e h = absurd (row before Body refl refl refl refl refl refl refl q k e h)
+never-back Ended q k e h = absurd (missed before OutOfPlace q refl e h)
 
 abbrev start : Place → Bool
 start Start = true
@@ -151,26 +122,13 @@ start Setup = false
 start Body = false
 start Ended = false
 
-none : Never start OutOfPlace
-none = never-out start
-
-to-start : (p : Place) → start p ≡ false → Never start (To p)
-to-start p f = never-to start p f
-
--- a row's columns that lead anywhere lead past the start
 never-start-at : (p q : Place) (k : Kind) → goes p k ≡ To q → start q ≡ true → ⊥
-never-start-at Start q k = row-never start _ _ _ _ _ _ _ (to-start Header refl) none none none none none none q k
-never-start-at Header q k =
-    row-never start _ _ _ _ _ _ _ none (to-start Header refl) (to-start Lot refl) none none none none q k
-never-start-at Lot q k =
-    row-never start _ _ _ _ _ _ _ none none none (to-start Setup refl) (to-start Setup refl) (to-start Ended refl)
-    (to-start Body refl) q k
-never-start-at Setup q k =
-    row-never start _ _ _ _ _ _ _ none none none none (to-start Setup refl) (to-start Ended refl) (to-start Body refl)
-    q k
-never-start-at Body q k =
-    row-never start _ _ _ _ _ _ _ none none none none none (to-start Ended refl) (to-start Body refl) q k
-never-start-at Ended q k = none q
+never-start-at Start q k = row start Start refl refl refl refl refl refl refl q k
+never-start-at Header q k = row start Header refl refl refl refl refl refl refl q k
+never-start-at Lot q k = row start Lot refl refl refl refl refl refl refl q k
+never-start-at Setup q k = row start Setup refl refl refl refl refl refl refl q k
+never-start-at Body q k = row start Body refl refl refl refl refl refl refl q k
+never-start-at Ended q k = missed start OutOfPlace q refl
 
 pub never-start : NeverStart
 never-start p q k e h = never-start-at p q k e (ap start h)

@@ -13,11 +13,12 @@ use Rattle.prelude.proofs.Parts.{part-from}
 use Rattle.script.specs.declared.Verb.{Verb}
 use Rattle.script.specs.declared.Verb.the-variants as verb
 use Rattle.script.specs.Words.{wordEnd, words, verbOf}
-use Rattle.script.specs.Hex.{bytesOf}
+use Rattle.numerals.specs.Hex.{bytesOf}
 use Rattle.script.proofs.WordLaws.{words-some, cut-last, cut-more}
-use Rattle.requests.specs.declared.Asked.{Asked}
-use Rattle.requests.specs.declared.Asked.the-variants.{Nothing, Comment, NoCall}
-use Rattle.requests.specs.Asked.{Word, asks, askedBy, asked, handsOver, last, handed, Found, Finds, FindsIn}
+use Rattle.asking.specs.declared.Asked.{Asked}
+use Rattle.asking.specs.declared.Asked.the-variants.{Nothing, Comment, NoCall}
+use Rattle.asking.specs.Asks.{Word, asks}
+use Rattle.requests.specs.Asked.{askedBy, asked, handsOver, last, handed, Found, Finds, FindsIn}
 
 last-behind : (w : Word) (s : List ℕ) → last (w ∷ words s) ≡ last (words s)
 last-behind w s = words-some (λ (ws : List Word). last (w ∷ ws) ≡ last ws) (λ v ws. refl) s
@@ -32,6 +33,7 @@ alone-hands verb.Close = refl
 alone-hands verb.Figures = refl
 alone-hands verb.Write = refl
 alone-hands verb.Read = refl
+alone-hands verb.Help = refl
 alone-hands verb.Other = refl
 
 module _ (line : List ℕ) where

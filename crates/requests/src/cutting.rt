@@ -1,13 +1,13 @@
 // A line cut into its words, and read.
-use crate::Asked;
 use crate::Request;
-use crate::asking::ask_alone;
-use crate::asking::ask_four;
-use crate::asking::ask_one;
-use crate::asking::ask_two;
 use asked_calls::Call;
+use asking::Asked;
+use asking::ask_alone;
+use asking::ask_four;
+use asking::ask_one;
+use asking::ask_two;
+use numerals::unhex;
 use script::Verb;
-use script::unhex;
 use script::verb_of;
 use script::word_end;
 ghost use mathlib.Core.List.{_∷_};
@@ -16,7 +16,7 @@ ghost use Prim.Native.Nat.{_≤_};
 ghost use lib.ListN.{length, drop};
 ghost use Rattle.output.specs.Placed.{Put};
 ghost use Rattle.script.specs.Words.{words};
-ghost use Rattle.script.specs.Hex.{bytesOf};
+ghost use Rattle.numerals.specs.Hex.{bytesOf};
 ghost use Rattle.requests.specs.Asked.{askedBy, asked, takesRecord, handsOver, handed, Finds, FindsIn};
 
 // What a line asks for, and where its last word starts, if it hands bytes over.
@@ -120,6 +120,7 @@ fn hands_over(asked: Asked) -> bool
     match asked {
         Asked::Nothing => false,
         Asked::Comment => false,
+        Asked::Help => false,
         Asked::Fresh => false,
         Asked::Play(call) => takes_record(call),
         Asked::Line(_, _, _, _) => true,

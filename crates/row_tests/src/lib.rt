@@ -90,7 +90,8 @@ pub fn rows_open(taken: &[bool], keys: &[u64], used: usize) -> bool
         if !taken[slot] {
             return false;
         }
-        i = slot_rank(keys, used, slot + 1);
+        let next = slot + 1;
+        i = slot_rank(keys, used, next);
     }
     true
 }

@@ -28,8 +28,8 @@ pub fn held_by(keys: &[u64], used: usize, slot: usize) -> usize
     requires { ⌜ (slot < 16) × (used ≤ length (now keys)) × (rising (take used (now keys)) ≡ true) ⌝ }
     ensures { λ r. ⌜ r ≡ heldBy slot (take used (now (keys .entry))) ⌝ }
 {
-    let from = slot_rank(keys, used, slot);
-    slot_rank(keys, used, slot + 1) - from
+    let before = slot_rank(keys, used, slot);
+    slot_rank(keys, used, slot + 1) - before
 }
 
 // Counts one part more under `key`, whose rank is `at`, and answers how many rows are in use then. The caller has

@@ -5,14 +5,14 @@
 --   verbOf    which verb a word is
 -- Assumes nothing.
 use mathlib.Core.Bool.{Bool, true, false, cond, _&&_}
-use mathlib.Core.List.{List, [], _∷_}
+use mathlib.Core.List.{List, [], _∷_, _++_}
 use Prim.Native.Nat.{ℕ, suc, _+_}
 use Prim.Native.Char.{code}
 use lib.Dec.{eqb}
 use lib.ListN.{drop}
 use Rattle.script.specs.declared.Verb.{Verb}
 use Rattle.script.specs.declared.Verb.the-variants.{Fresh, Open, Deliver, Report, Close, Figures, Write, Read}
-use Rattle.script.specs.declared.Verb.the-variants.{Other}
+use Rattle.script.specs.declared.Verb.the-variants.{Help, Other}
 
 abbrev pub space : ℕ
 space = code " "
@@ -60,7 +60,13 @@ verbs =
     named Fresh (code "f" ∷ code "r" ∷ code "e" ∷ code "s" ∷ code "h" ∷ []) ∷
     named Write (code "w" ∷ code "r" ∷ code "i" ∷ code "t" ∷ code "e" ∷ []) ∷
     named Read (code "r" ∷ code "e" ∷ code "a" ∷ code "d" ∷ []) ∷
+    named Help (code "h" ∷ code "e" ∷ code "l" ∷ code "p" ∷ []) ∷
     []
+
+-- all words of verbs, one behind the other: the code has them so, since a text of its own for each costs much to prove
+abbrev pub joined : List Named → List ℕ
+joined [] = []
+joined (n ∷ ns) = n .word ++ joined ns
 
 abbrev pub verbIn : List Named → List ℕ → Verb
 verbIn [] w = Other

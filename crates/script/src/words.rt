@@ -1,9 +1,9 @@
 // Where a word ends, and which verb it is.
 use crate::Verb;
 ghost use mathlib.Core.Path.{_≡_};
-ghost use Prim.Native.Nat.{_≤_};
-ghost use lib.ListN.{length};
-ghost use Rattle.script.specs.Words.{wordEnd, same, verbOf};
+ghost use Prim.Native.Nat.{_-_, _≤_};
+ghost use lib.ListN.{length, take, drop};
+ghost use Rattle.script.specs.Words.{wordEnd, same, joined, verbs, verbOf};
 
 // Where the word that starts at `from` ends: at the next space, or at the line's end.
 pub fn word_end(line: &[u8], from: usize) -> usize
@@ -21,7 +21,7 @@ pub fn word_end(line: &[u8], from: usize) -> usize
 }
 
 // Whether a word is this name.
-pub(crate) fn is_name(word: &[u8], name: &[u8]) -> bool
+pub fn is_name(word: &[u8], name: &[u8]) -> bool
     ensures { λ r. ⌜ r ≡ same (now (word .entry)) (now (name .entry)) ⌝ }
 {
     if word.len() != name.len() {
@@ -37,32 +37,44 @@ pub(crate) fn is_name(word: &[u8], name: &[u8]) -> bool
     true
 }
 
+// Whether a word is the part `from` to `end` of all verbs' words, one behind the other.
+fn is_verb(word: &[u8], from: usize, end: usize) -> bool
+    requires { ⌜ (from ≤ end) × (end ≤ 47) ⌝ }
+    ensures { λ r. ⌜ r ≡ same (now (word .entry)) (take (end - from) (drop from (joined verbs))) ⌝ }
+{
+    let words = *b"deliveropenreportclosefiguresfreshwritereadhelp";
+    is_name(word, &words[from..end])
+}
+
 pub fn verb_of(word: &[u8]) -> Verb
     ensures { λ r. ⌜ r ≡ verbOf (now (word .entry)) ⌝ }
 {
-    if is_name(word, b"deliver") {
+    if is_verb(word, 0, 7) {
         return Verb::Deliver;
     }
-    if is_name(word, b"open") {
+    if is_verb(word, 7, 11) {
         return Verb::Open;
     }
-    if is_name(word, b"report") {
+    if is_verb(word, 11, 17) {
         return Verb::Report;
     }
-    if is_name(word, b"close") {
+    if is_verb(word, 17, 22) {
         return Verb::Close;
     }
-    if is_name(word, b"figures") {
+    if is_verb(word, 22, 29) {
         return Verb::Figures;
     }
-    if is_name(word, b"fresh") {
+    if is_verb(word, 29, 34) {
         return Verb::Fresh;
     }
-    if is_name(word, b"write") {
+    if is_verb(word, 34, 39) {
         return Verb::Write;
     }
-    if is_name(word, b"read") {
+    if is_verb(word, 39, 43) {
         return Verb::Read;
+    }
+    if is_verb(word, 43, 47) {
+        return Verb::Help;
     }
     Verb::Other
 }

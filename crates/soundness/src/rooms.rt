@@ -12,13 +12,13 @@ pub fn unfilled_of(i: usize, s: Slot, keys: &[u64; House::ROWS], used: usize) ->
     requires { ⌜ (i < 16) × LentKeys (now keys) used ⌝ }
     ensures { λ r. ⌜ r ≡ unfilled i s (take used (now (keys .entry))) ⌝ }
 {
-    if !s.taken {
-        return 0;
+    if s.taken {
+        let floor = s.floor as usize;
+        let held = held_by(keys, used, i);
+        if floor < held {
+            return 0;
+        }
+        return (floor - held) as u32;
     }
-    let floor = s.floor as usize;
-    let held = held_by(keys, used, i);
-    if floor < held {
-        return 0;
-    }
-    (floor - held) as u32
+    0
 }

@@ -1,13 +1,13 @@
 // The lines that end a stream: document 01, "Tally program". Each writer puts its bytes at the start of the part that
 // it is lent; a row's line goes to an offset.
 use house::Row;
+use line_laying::place;
 use line_layouts::Field;
 use line_layouts::Layout;
 use line_layouts::Line;
 use line_layouts::Said;
 use line_layouts::Tag;
 use line_layouts::columns::SEPARATOR;
-use line_layouts::laying::place;
 use output::Written;
 use output::put_byte;
 use output::put_part;

@@ -1,36 +1,25 @@
--- The statements of specs/Laws.antt, proved.
+-- The statements of specs/Laws.antt, proved; of the text that the calls tell, in proofs/Told.antt.
 -- Assumes nothing.
-use mathlib.Core.Path.{_≡_, refl, ap, sym, _∙_}
-use mathlib.Core.List.{List, [], _∷_}
+use mathlib.Core.Path.{_≡_, ap, _∙_}
+use mathlib.Core.List.{List, []}
 use Prim.Native.Nat.{ℕ}
-use Rattle.cutting.specs.Walk.{Walked, Waits, Stops, walked}
-use Rattle.cutting.proofs.Walks.{walked-append, walked-stops}
-use Rattle.house.specs.House.{rowCount, fresh}
-use Rattle.house.specs.Calls.{openSlot}
+use Rattle.cutting.proofs.Walks.{walked-stops}
 use Rattle.walking.specs.declared.Stop.{Stop}
-use Rattle.tallying.specs.Following.{Reached, reached, hearing, Progress, seen, resumed, followed}
+use Rattle.walking.specs.declared.Fate.the-variants.{Stopped}
+use Rattle.following.specs.Following.{Reached, reached, hearing, Progress, followed, begun}
+use Rattle.following.proofs.Laws.{followed-chunks, followed-all}
 use Rattle.tallying.specs.Text.{ended}
-use Rattle.tallying.specs.Laws.{FollowedChunks, joined, followedAll, TallyChunks}
-
--- what is kept of a stream is all that matters to the bytes that come
-on : (w : Walked Reached Stop) (bytes : List ℕ) → seen (walked hearing w bytes) ≡ followed (seen w) bytes
-on (Waits p part) bytes = refl
-on (Stops p r why rest) bytes =
-    ap seen (walked-stops Reached Stop hearing p r why rest bytes)
-    ∙ ap seen (sym (walked-stops Reached Stop hearing p [] why [] bytes))
-
-pub followed-chunks : FollowedChunks
-followed-chunks p a b =
-    ap seen (walked-append Reached Stop hearing (resumed p) a b) ∙ on (walked hearing (resumed p) a) b
-
-all-joined : (w : Walked Reached Stop) (chunks : List (List ℕ))
-    → followedAll (seen w) chunks ≡ seen (walked hearing w (joined chunks))
-unfolding walked
-all-joined w [] = refl
-all-joined w (c ∷ cs) =
-    ap (λ (p : Progress). followedAll p cs) (sym (on w c))
-    ∙ all-joined (walked hearing w c) cs
-    ∙ ap seen (sym (walked-append Reached Stop hearing w c (joined cs)))
+use Rattle.tallying.specs.Laws.{TallyChunks, TallyStopped}
 
 pub tally-chunks : TallyChunks
-tally-chunks chunks = ap ended (all-joined (Waits (reached (openSlot fresh 0 rowCount .house) 0) []) chunks)
+tally-chunks chunks = ap ended (followed-all chunks)
+
+stopped-text : (p : Progress) (why : Stop) (more : List ℕ) → p .fate ≡ Stopped why
+    → ended (followed p more) ≡ ended p
+unfolding ended
+stopped-text p why more e =
+    rw (e, walked-stops Reached Stop hearing (reached (p .house) (p .accepted)) [] why [] more)
+
+pub tally-stopped : TallyStopped
+tally-stopped bytes more why e =
+    ap ended (followed-chunks begun bytes more) ∙ stopped-text (followed begun bytes) why more e

@@ -1,5 +1,5 @@
 pub mod First
-pub mod Laws
-pub mod Alone
-pub mod Carry
+pub mod Places
 pub mod Texts
+pub mod Told
+pub mod Laws

@@ -14,18 +14,19 @@ use Rattle.answers.specs.Numbers.{numberOf}
 use Rattle.house.specs.declared.House.{House}
 use Rattle.house.specs.declared.Row.{Row}
 use Rattle.house.specs.Report.{rowAt}
+use Rattle.order.specs.Laws.{ended as isEnded}
 use Rattle.output.specs.Placed.{Put}
 use Rattle.tally_lines.specs.Lines.{rowLine, refusedLine, tooLongLine}
 use Rattle.tally_lines.specs.Writing.{LaidAt}
 use Rattle.walking.specs.declared.Stop.{Stop}
 use Rattle.walking.specs.declared.Stop.the-variants.{Refused, TooLong}
 use Rattle.walking.specs.declared.Fate.the-variants.{Going, Stopped}
-use Rattle.tallying.specs.declared.Stream.{Stream}
-use Rattle.tallying.specs.Following.{standing}
-use Rattle.tallying.specs.Text.{rowLines, stoppedLine, leftOver, isEnded, closing, endedWith, ended}
-use Rattle.tallying.specs.Lent.{streamHouse, progressOf}
+use Rattle.following.specs.declared.Stream.{Stream}
+use Rattle.following.specs.Following.{standing}
+use Rattle.tallying.specs.Text.{rowLines, stoppedLine, leftOver, closing, endedWith, ended}
+use Rattle.following.specs.Lent.{streamHouse, progressOf}
 use Rattle.tallying.specs.Lined.{Lined}
-use Rattle.tallying.proofs.Carry.{front-part}
+use Rattle.following.proofs.Carry.{front-part}
 
 -- ---- line after line
 

@@ -1,24 +1,29 @@
--- What is shown of a stream: statements only. Each is proved in proofs/Laws.antt, under its name in small letters.
+-- What is shown of the text of a stream: statements only. Each is proved in proofs/Laws.antt, or in proofs/Told.antt the
+-- last, under its name in small letters.
 --
---   FollowedChunks   chunks do not matter: a stream followed over two of them is followed over both at once
---   TallyChunks      .. so its text is that of all bytes, wherever they were cut
+--   TallyChunks   the text is that of all bytes, wherever they were cut into chunks
+--   TallyStopped  what stops a stream decides its text: no byte behind it does
+--   TallyTold     it is the text that the calls and their answers tell
 -- Assumes nothing.
 use mathlib.Core.Path.{_≡_}
-use mathlib.Core.List.{List, [], _∷_, _++_}
+use mathlib.Core.List.{List, _++_}
 use Prim.Native.Nat.{ℕ}
-use Rattle.tallying.specs.Following.{Progress, followed, begun}
+use Rattle.numbers.specs.Laws.{Bytes}
+use Rattle.cutting.specs.Walk.{joined}
+use Rattle.walking.specs.declared.Stop.{Stop}
+use Rattle.walking.specs.declared.Fate.the-variants.{Stopped}
+use Rattle.following.specs.Following.{followed, begun}
+use Rattle.following.specs.Laws.{followedAll}
 use Rattle.tallying.specs.Text.{ended, tallyText}
-
-abbrev pub FollowedChunks : Type 0
-FollowedChunks = (p : Progress) (a b : List ℕ) → followed p (a ++ b) ≡ followed (followed p a) b
-
-abbrev pub joined : List (List ℕ) → List ℕ
-joined [] = []
-joined (c ∷ cs) = c ++ joined cs
-
-abbrev pub followedAll : Progress → List (List ℕ) → Progress
-followedAll p [] = p
-followedAll p (c ∷ cs) = followedAll (followed p c) cs
+use Rattle.tallying.specs.Told.{toldText}
 
 abbrev pub TallyChunks : Type 0
 TallyChunks = (chunks : List (List ℕ)) → ended (followedAll begun chunks) ≡ tallyText (joined chunks)
+
+abbrev pub TallyStopped : Type 0
+TallyStopped = (bytes more : List ℕ) (why : Stop) → followed begun bytes .fate ≡ Stopped why
+    → tallyText (bytes ++ more) ≡ tallyText bytes
+
+-- no word of a house, a session or a walk: records cut by their headers, calls, answers and the rows of a report
+abbrev pub TallyTold : Type 0
+TallyTold = (bytes : List ℕ) → Bytes bytes → tallyText bytes ≡ toldText bytes

@@ -1,5 +1,4 @@
-pub mod Following
 pub mod Text
-pub mod Lent
 pub mod Lined
+pub mod Told
 pub mod Laws

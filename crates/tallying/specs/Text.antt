@@ -11,8 +11,7 @@ use mathlib.Core.List.{List, [], _∷_, _++_}
 use Rattle.answers.specs.Numbers.{numberOf}
 use Rattle.answers.specs.declared.Answer.{Answer}
 use Rattle.answers.specs.declared.Answer.the-variants.{NotOneRecord}
-use Rattle.order.specs.declared.Place.{Place}
-use Rattle.order.specs.declared.Place.the-variants.{Start, Header, Lot, Setup, Body, Ended}
+use Rattle.order.specs.Laws.{ended as isEnded}
 use Rattle.session.specs.Session.{isStart}
 use Rattle.house.specs.declared.House.{House}
 use Rattle.house.specs.House.{rowCount}
@@ -23,7 +22,7 @@ use Rattle.walking.specs.declared.Stop.{Stop}
 use Rattle.walking.specs.declared.Stop.the-variants.{Refused, TooLong}
 use Rattle.walking.specs.declared.Fate.{Fate}
 use Rattle.walking.specs.declared.Fate.the-variants.{Going, Stopped}
-use Rattle.tallying.specs.Following.{Progress, standing, followed, begun}
+use Rattle.following.specs.Following.{Progress, standing, followed, begun}
 
 -- after an accepted MRR, one HBR line for each row in report order
 unfoldable pub rowLines : House → ℕ → List ℕ
@@ -36,14 +35,6 @@ reportLines h = rowLines h (reported h 0 rowCount .rows)
 -- bytes left over are N=3; but the first record is all bytes, where they are fewer than six
 abbrev pub leftOver : House → List ℕ → Answer
 leftOver h bytes = cond (isStart (standing h .place)) (deliver h 0 bytes .answer) NotOneRecord
-
-abbrev pub isEnded : Place → Bool
-isEnded Start = false
-isEnded Header = false
-isEnded Lot = false
-isEnded Setup = false
-isEnded Body = false
-isEnded Ended = true
 
 -- after an accepted MRR at the end, the rows
 abbrev pub closing : House → ℕ → Bool → List ℕ

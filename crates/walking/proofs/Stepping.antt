@@ -12,7 +12,7 @@ use Rattle.answers.specs.declared.Answer.{Answer}
 use Rattle.answers.specs.declared.Answer.the-variants.{Done}
 use Rattle.answers.specs.Numbers.{numberOf}
 use Rattle.numbers.specs.Laws.{Bytes}
-use Rattle.numbers.proofs.Laws.{part-bytes}
+use Rattle.numbers.proofs.Laws.{part-bytes, bytes-append}
 use Rattle.rows.specs.Rows.{rowKey}
 use Rattle.session.specs.declared.Standing.{Standing}
 use Rattle.session.specs.declared.Verdict.{Verdict}
@@ -23,7 +23,7 @@ use Rattle.house.specs.Deliver.{Core, core, Outcome, outcome, granted, rowTaken
 use Rattle.house.specs.Deliver.{LentCore}
 use Rattle.cutting.specs.Needed.{needed, cut}
 use Rattle.cutting.specs.Walk.{Heard, Kept, Turned, Walked, Waits, Stops, judged, walked, stateOf}
-use Rattle.cutting.proofs.Walks.{walked-append, walked-stops, bytes-append}
+use Rattle.cutting.proofs.Walks.{walked-append, walked-stops}
 use Rattle.cutting.proofs.Cuts.{needed-some, cut-record, cut-waits, cut-alone, cut-heard, cut-long}
 use Rattle.walking.specs.declared.Stop.{Stop}
 use Rattle.walking.specs.declared.Stop.the-variants.{Refused, TooLong}

@@ -2,6 +2,7 @@
 -- Assumes nothing.
 use mathlib.Core.Path.{_≡_, sym, _∙_}
 use mathlib.Core.Bool.{true}
+use native.Mathlib.Omega.{arith}
 use lib.ListN.{length}
 use borrow.Author.Needs.{needs}
 use borrow.Author.Tests.{not-true, not-false}
@@ -38,7 +39,7 @@ drop-slot-requires : tie.Need-drop-slot-requires
 drop-slot-requires c κs =
     let inside = c .before .before .before .before .before .before .before in
     let start = c .before .before .before .before .before .before .before .before .before .before in (
-      inside .if2 .left,
+      omega (arith, inside .if2 .left),
       lent-kept _ _ _ (told-lent (start .args .house) (sounded (inside .before)) (long start)
           (paired start)),
     )
@@ -81,11 +82,11 @@ slice-aggregate-drop-slot-2 c = search needs
 closed-requires : tie.Need-closed-requires
 closed-requires c κs = search needs
 
-mul-t13 : tie.Need-mul-t13
-mul-t13 c = search needs
+mul-none : tie.Need-mul-none
+mul-none c = search needs
 
-element-set-from-h : tie.Need-element-set-from-h
-element-set-from-h c = search needs
+element-set-from-none : tie.Need-element-set-from-none
+element-set-from-none c = search needs
 
 answer-with-requires-4 : tie.Need-answer-with-requires-4
 answer-with-requires-4 c κs = search needs
@@ -107,7 +108,7 @@ close-slot-spec =
     slice-aggregate-drop-slot-2
     drop-slot-requires
     closed-requires
-    mul-t13
-    element-set-from-h
+    mul-none
+    element-set-from-none
     answer-with-requires-4
     returns-4)

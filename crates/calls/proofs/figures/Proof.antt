@@ -17,7 +17,7 @@ cast-free : tie.Need-cast-free
 cast-free c = record { fits = omega (arith, told-within _ (sounded (c .before))) }
 
 sub-free : tie.Need-sub-free
-sub-free c = told-within _ (sounded (c .before))
+sub-free c = omega (arith, told-within _ (sounded (c .before)))
 
 returns : tie.Need-returns
 returns c =

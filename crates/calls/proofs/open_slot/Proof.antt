@@ -38,23 +38,23 @@ returns-3 c =
     c .answer-with3 .ensures
     ∙ sym (open-high _ _ _ (sounded (c .before .before .before)) (c .before .before .if2 .left) (c .before .if3 .taken))
 
+sub-free : tie.Need-sub-free
+sub-free c = omega (arith, told-within _ (sounded (c .before .before .before)))
+
+cast-free : tie.Need-cast-free
+cast-free c = record { fits = omega (arith, told-within _ (sounded (c .before .before .before))) }
+
+sub-spare : tie.Need-sub-spare
+sub-spare c =
+    let fine = c .before .before .before .before in
+    omega (arith, told-rooms _ (sounded fine), owed fine)
+
 returns-4 : tie.Need-returns-4
 returns-4 c =
-    let low = c .before .before .before in
+    let low = c .before .before .before .before in
     c .answer-with4 .ensures
     ∙ sym (open-taken _ _ _ (sounded (low .before .before)) (low .before .if2 .left) (low .if3 .left)
     (c .before .if4 .taken))
-
-cast-free : tie.Need-cast-free
-cast-free c = record { fits = omega (arith, told-within _ (sounded (c .before .before .before .before))) }
-
-sub-free : tie.Need-sub-free
-sub-free c = told-within _ (sounded (c .before .before .before .before))
-
-sub-if5 : tie.Need-sub-if5
-sub-if5 c =
-    let fine = c .before .before .before .before .before in
-    omega (arith, told-rooms _ (sounded fine), owed fine)
 
 returns-5 : tie.Need-returns-5
 returns-5 c =
@@ -64,7 +64,7 @@ returns-5 c =
     let a = test fine .before .args in
     c .answer-with5 .ensures
     ∙ sym
-    (open-no-room _ _ _ (sounded fine) (low .before .if2 .left) (low .if3 .left) (room .before .before .if4 .left)
+    (open-no-room _ _ _ (sounded fine) (low .before .if2 .left) (low .if3 .left) (room .before .if4 .left)
     (subst (λ (n : ℕ). 1024 - a .house .used - n < a .floor) (owed fine) (room .if5 .taken)))
 
 returns-6 : tie.Need-returns-6
@@ -75,7 +75,7 @@ returns-6 c =
     let a = test fine .before .args in
     c .answer-with6 .ensures
     ∙ sym
-    (open-done _ _ _ (sounded fine) (low .before .if2 .left) (low .if3 .left) (room .before .before .if4 .left)
+    (open-done _ _ _ (sounded fine) (low .before .if2 .left) (low .if3 .left) (room .before .if4 .left)
     (subst (λ (n : ℕ). a .floor ≤ 1024 - a .house .used - n) (owed fine) (room .if5 .left)) _
     (c .before .opened .ensures))
 
@@ -108,8 +108,8 @@ answer-with-requires-5 c κs = search needs
 opened-requires : tie.Need-opened-requires
 opened-requires c κs = search needs
 
-mul-t19 : tie.Need-mul-t19
-mul-t19 c = search needs
+mul-t22 : tie.Need-mul-t22
+mul-t22 c = search needs
 
 element-set-from-h : tie.Need-element-set-from-h
 element-set-from-h c = search needs
@@ -130,15 +130,15 @@ open-slot-spec =
     returns-3
     mul-s
     element-copy-out-s
-    answer-with-requires-4
-    returns-4
     sub-free
     cast-free
-    sub-if5
+    sub-spare
+    answer-with-requires-4
+    returns-4
     answer-with-requires-5
     returns-5
     opened-requires
-    mul-t19
+    mul-t22
     element-set-from-h
     answer-with-requires-6
     returns-6)

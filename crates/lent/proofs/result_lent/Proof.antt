@@ -1,10 +1,12 @@
 -- `lent::result_lent` meets its contract: each return is one case of its definition.
 -- Assumes nothing.
-use mathlib.Core.Path.{_≡_, _∙_}
+use mathlib.Core.Path.{_≡_, refl, ap, sym, _∙_}
 use lib.ListN.{take}
 use denote.Ref.{now}
 use borrow.Author.Needs.{needs}
-use Rattle.house.specs.Deliver.{noted}
+use Rattle.answers.specs.declared.Answer.the-variants as answer
+use Rattle.settling.proofs.Laws.{changed-stands}
+use Rattle.house.specs.Deliver.{noted, told}
 use Rattle.house.proofs.Delivering.{resulted-rows, resulted-none, result-noted}
 use Rattle.lent.proofs.result_lent.Statement.{statement}
 use Rattle.lent.proofs.result_lent.Tie as tie
@@ -34,17 +36,23 @@ settle-parts-requires c κs =
 
 returns : tie.Need-returns
 returns c =
-    let told = c .before .before .before .before .before in
-    let t = taken (told .before .before) in (
-      resulted-rows _ _ _ _ _ (t .before .row-key .ensures) _ _ _ (t .take-row .ensures .0) _ _ (told .n .given .1)
+    let got = c .before .before .before .before .before in
+    let t = taken (got .before .before) in (
+      resulted-rows _ _ _ _ _ (t .before .row-key .ensures) _ _ _ (t .take-row .ensures .0) _ _ (got .n .given .1)
           (c .before .before .settle-parts .ensures),
       note t,
     )
 
+-- without a row all stands as it stood
 returns-2 : tie.Need-returns-2
 returns-2 c =
-    let t = taken (c .before .before) in (
-      resulted-none _ _ _ _ _ (t .before .row-key .ensures) _ _ _ (t .take-row .ensures .0) (c .enum-told .given .1),
+    let none = c .before .before .before .before in
+    let t = taken (none .before .before) in
+    let a = start t .args in
+    let stood = c .before .before .settle-parts2 .ensures ∙ sym (changed-stands (a .st) (now (a .parts)) refl) in (
+      ap (told answer.NoRoom _ _ (a .used)) stood
+          ∙ resulted-none _ _ _ _ _ (t .before .row-key .ensures) _ _ _ (t .take-row .ensures .0)
+          (none .enum-told .given .1),
       note t,
     )
 
@@ -64,6 +72,9 @@ enum-known-n c = search needs
 
 enum-told : tie.Need-enum-told
 enum-told c = search needs
+
+settle-parts-requires-2 : tie.Need-settle-parts-requires-2
+settle-parts-requires-2 c κs = search needs
 
 same-length : tie.Need-same-length
 same-length c = search needs
@@ -86,6 +97,9 @@ same-length-6 c = search needs
 same-length-7 : tie.Need-same-length-7
 same-length-7 c = search needs
 
+same-length-8 : tie.Need-same-length-8
+same-length-8 c = search needs
+
 pub result-lent-spec : {M : Type 1} → statement M
 result-lent-spec =
     tie.close
@@ -96,6 +110,7 @@ result-lent-spec =
     enum-known-n
     settle-parts-requires
     enum-told
+    settle-parts-requires-2
     same-length
     same-length-2
     same-length-3
@@ -104,4 +119,5 @@ result-lent-spec =
     same-length-5
     same-length-6
     same-length-7
+    same-length-8
     returns-2)

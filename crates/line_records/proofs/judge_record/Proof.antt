@@ -12,8 +12,9 @@ use Rattle.prelude.proofs.Parts.{part-from}
 use Rattle.answers.specs.declared.Answer.the-variants.{NotOneRecord, UnknownKind}
 use Rattle.frames.specs.Frames.{body, isRecord}
 use Rattle.frames.proofs.Laws.{record-header}
-use Rattle.line_layouts.proofs.Faults.{taken-refused}
+use Rattle.line_layouts.proofs.Faults.{held-refused}
 use Rattle.line_records.specs.Records.{meaning}
+use Rattle.line_records.specs.Places.{recordLine}
 use Rattle.line_records.proofs.Judges.{meaning-frame, meaning-tagged}
 use Rattle.line_records.proofs.judge_record.Statement.{statement}
 use Rattle.line_records.proofs.judge_record.Tie as tie
@@ -32,7 +33,7 @@ returns c =
     let s = now (a .«record») in
     let told = c .before .before .is-record in
     rw (c .refused-line .ensures)
-    (taken-refused (body s) (meaning (a .order) s) NotOneRecord
+    (held-refused (body s) (recordLine (a .order) s) (meaning (a .order) s) NotOneRecord
     (meaning-frame (a .order) s (sym (told .ensures) ∙ not-true (told .result) (c .before .if1 .taken))))
 
 shared-slice-read-kind-of : tie.Need-shared-slice-read-kind-of
@@ -48,6 +49,7 @@ part-walk-start : tie.Need-part-walk-start
 part-walk-start c = whole (c .before .before .before .before .before .before .before)
 
 returns-2 : tie.Need-returns-2
+unfolding recordLine
 returns-2 c =
     let t = c .before .before .before in
     let n = t .before .before in
@@ -67,7 +69,8 @@ returns-3 c =
     let s = now (a .«record») in
     let tagged = rw (k .kind-of .ensures) at (sym (n .count-tag .ensures) ∙ c .before .enum-told .given .1) in
     rw (c .refused-line2 .ensures)
-    (taken-refused (body s) (meaning (a .order) s) UnknownKind (rw (meaning-tagged (a .order) s (is e), tagged)))
+    (held-refused (body s) (recordLine (a .order) s) (meaning (a .order) s) UnknownKind
+    (rw (meaning-tagged (a .order) s (is e), tagged)))
 
 -- ---- found by search
 

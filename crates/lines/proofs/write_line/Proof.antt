@@ -11,7 +11,8 @@ returns c =
     c .before .before .before .before .before .order .given .1) (c .before .before .write-in .ensures)
 
 returns-2 : tie.Need-returns-2
-returns-2 c = rw (sym (c .before .before .order-of .ensures) ∙ c .enum-told .given .1)
+returns-2 c =
+    rw (sym (c .before .before .before .before .before .before .order-of .ensures) ∙ c .before .before .before .before .enum-told .given .1) (c .before .before .refuse .ensures)
 
 -- ---- found by search
 
@@ -27,8 +28,14 @@ write-in-requires c κs = search needs
 enum-told : tie.Need-enum-told
 enum-told c = search needs
 
+refuse-requires : tie.Need-refuse-requires
+refuse-requires c κs = tt
+
 same-length : tie.Need-same-length
 same-length c = search needs
+
+same-length-2 : tie.Need-same-length-2
+same-length-2 c = search needs
 
 pub write-line-spec : {M : Type 1} → statement M
 write-line-spec =
@@ -38,6 +45,8 @@ write-line-spec =
     enum-known-order
     write-in-requires
     enum-told
+    refuse-requires
     same-length
     returns
+    same-length-2
     returns-2)

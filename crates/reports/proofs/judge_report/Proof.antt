@@ -1,3 +1,5 @@
+-- `reports::judge_report` meets its contract: each return is one case of its definition.
+-- Assumes nothing.
 use mathlib.Core.Path.{_≡_, sym, _∙_}
 use mathlib.Core.Bool.{true}
 use native.Mathlib.Omega.{arith}
@@ -5,9 +7,8 @@ use lib.ListN.{length}
 use borrow.Author.Needs.{needs}
 use borrow.Author.Tests.{not-true, not-false}
 use Rattle.house.specs.House.{sound}
-use Rattle.house.proofs.Reporting.{report-unsound, report-no-slot, report-closed, report-short, report-done}
 use Rattle.house.proofs.Calling.{told-within}
-use Rattle.house.proofs.Reporting.{told-rises}
+use Rattle.house.proofs.Reporting.{report-unsound, report-no-slot, report-closed, report-short, report-done, told-rises}
 use Rattle.reports.proofs.judge_report.Statement.{statement}
 use Rattle.reports.proofs.judge_report.Tie as tie
 
@@ -20,29 +21,23 @@ fine c = sym (c .before .is-sound .ensures) ∙ not-false _ (c .if1 .left)
 is-sound-requires : tie.Need-is-sound-requires
 is-sound-requires c κs = search needs
 
--- src/reports.rt:19:9
 returns : tie.Need-returns
 returns c = sym (report-unsound _ _ _ (sym (c .before .is-sound .ensures) ∙ not-true _ (c .if1 .taken)))
 
--- src/reports.rt:25:9
 returns-2 : tie.Need-returns-2
 returns-2 c = sym (report-no-slot _ _ _ (fine (c .before)) (c .if2 .taken))
 
--- src/reports.rt:32:13
 mul-s : tie.Need-mul-s
 mul-s c = search needs
 
--- src/reports.rt:32:13
 element-copy-out-s : tie.Need-element-copy-out-s
 element-copy-out-s c = search needs
 
--- src/reports.rt:34:9
 returns-3 : tie.Need-returns-3
 returns-3 c =
     let there = c .before .before .before in
     sym (report-closed _ _ _ (fine (there .before)) (there .if2 .left) (not-true _ (c .if3 .taken)))
 
--- src/reports.rt:39:9
 held-by-requires : tie.Need-held-by-requires
 held-by-requires c κs =
     let there = c .before .before .before .before .before .before in
@@ -52,7 +47,6 @@ held-by-requires c κs =
       told-rises h (fine (there .before)),
     )
 
--- src/reports.rt:41:9
 returns-4 : tie.Need-returns-4
 returns-4 c =
     let opened = c .before .before .before .before .before in
@@ -60,7 +54,6 @@ returns-4 c =
     sym (report-short _ _ _ (fine (there .before)) (there .if2 .left) (not-false _ (opened .if3 .left)) _
     (c .before .held-by .ensures) (c .if4 .taken))
 
--- src/reports.rt:15:1
 returns-5 : tie.Need-returns-5
 returns-5 c =
     let opened = c .before .before .before .before .before in

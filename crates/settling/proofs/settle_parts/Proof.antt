@@ -11,13 +11,14 @@ insert-requires c κs =
     let opens = c .before .before in
     let start = opens .before .before .before in
     let w = within-opens _ (start .pre .2) (opens .change2 .given .1) in
-    (w .0, omega (arith, w .1, start .pre .0))
+    (omega (arith, w .0), omega (arith, w .1, start .pre .0))
 
 remove-requires : tie.Need-remove-requires
 remove-requires c κs =
     let closes = c .before .before in
     let start = closes .before .before .before in
-    (within-closes _ (start .pre .2) (closes .change3 .given .1), omega (arith, start .pre .0, start .pre .1))
+    let w = within-closes _ (start .pre .2) (closes .change3 .given .1) in
+    (omega (arith, w), omega (arith, start .pre .0, start .pre .1))
 
 returns : tie.Need-returns
 returns c = changed-stands _ _ (c .before .change .given .1)

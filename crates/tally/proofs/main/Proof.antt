@@ -5,23 +5,25 @@ use Rattle.tally_lines.proofs.Lines.{put-within}
 use Rattle.tally.proofs.main.Statement.{statement}
 use Rattle.tally.proofs.main.Tie as tie
 
+part-write-all-end : tie.Need-part-write-all-end
+part-write-all-end c = put-within _ _ _ _ (c .before .before .before .tally .ensures .put)
+
+-- ---- found by search
+
 read-buffer-requires : tie.Need-read-buffer-requires
 read-buffer-requires c κs = search needs
-
-slice-aggregate-buf : tie.Need-slice-aggregate-buf
-slice-aggregate-buf c = search needs
-
-follow-all-requires : tie.Need-follow-all-requires
-follow-all-requires c κs = search needs
 
 large-buffer-requires : tie.Need-large-buffer-requires
 large-buffer-requires c κs = search needs
 
-slice-aggregate-finish : tie.Need-slice-aggregate-finish
-slice-aggregate-finish c = search needs
+slice-aggregate-tally : tie.Need-slice-aggregate-tally
+slice-aggregate-tally c = search needs
 
-finish-requires : tie.Need-finish-requires
-finish-requires c κs = search needs
+slice-aggregate-tally-2 : tie.Need-slice-aggregate-tally-2
+slice-aggregate-tally-2 c = search needs
+
+tally-requires : tie.Need-tally-requires
+tally-requires c κs = search needs
 
 sub-write-all : tie.Need-sub-write-all
 sub-write-all c = search needs
@@ -29,27 +31,35 @@ sub-write-all c = search needs
 part-write-all-start : tie.Need-part-write-all-start
 part-write-all-start c = search needs
 
-part-write-all-end : tie.Need-part-write-all-end
-part-write-all-end c = put-within _ _ _ _ (c .before .before .before .finish .ensures)
-
 write-all-requires : tie.Need-write-all-requires
 write-all-requires c κs = search needs
 
+slice-aggregate-write-all : tie.Need-slice-aggregate-write-all
+slice-aggregate-write-all c = search needs
+
+write-all-requires-2 : tie.Need-write-all-requires-2
+write-all-requires-2 c κs = search needs
+
 returns : tie.Need-returns
 returns c = search needs
+
+returns-2 : tie.Need-returns-2
+returns-2 c = search needs
 
 pub main-spec : {M : Type 1} → statement M
 main-spec =
     tie.close
     (tie.spec
     read-buffer-requires
-    slice-aggregate-buf
-    follow-all-requires
     large-buffer-requires
-    slice-aggregate-finish
-    finish-requires
+    slice-aggregate-tally
+    slice-aggregate-tally-2
+    tally-requires
     sub-write-all
     part-write-all-start
     part-write-all-end
     write-all-requires
-    returns)
+    slice-aggregate-write-all
+    write-all-requires-2
+    returns
+    returns-2)

@@ -2,7 +2,7 @@
 -- Assumes nothing.
 use native.Mathlib.Omega.{arith}
 use borrow.Author.Needs.{needs}
-use Rattle.tallying.proofs.Carry.{right-read}
+use Rattle.following.proofs.Carry.{right-read}
 use Rattle.cases_tally.proofs.feed.chunk.Statement.{statement}
 use Rattle.cases_tally.proofs.feed.chunk.Tie as tie
 

@@ -1,26 +1,26 @@
 -- `desk::answering::answer_all` ends: the measure is the number of turns that are left.
 -- Assumes nothing.
-use borrow.Author.Needs.{needs}
+use native.Mathlib.Omega.{arith}
 use Rattle.desk.proofs.answering.answer_all.Statement.{statement}
 use Rattle.desk.proofs.answering.answer_all.Tie as tie
 
 abbrev Inv-loop : tie.InvT-loop
-Inv-loop chunk₀ line₀ house₀ input₀ going₀ turns₀ chunk line house input going turns = Unit {0}
+Inv-loop chunk₀ line₀ house₀ input₀ turns₀ chunk line house input turns = Unit {0}
 
 abbrev μ-loop : tie.MeasureT-loop
-μ-loop chunk₀ line₀ house₀ input₀ going₀ turns₀ chunk line house input going turns = turns
+μ-loop chunk₀ line₀ house₀ input₀ turns₀ chunk line house input turns = turns
 
 large-buffer-requires : tie.Need-large-buffer-requires Inv-loop μ-loop
 large-buffer-requires c κs = tt
 
 slice-aggregate-chunk : tie.Need-slice-aggregate-chunk Inv-loop μ-loop
-slice-aggregate-chunk c = search needs
+slice-aggregate-chunk c = omega arith
 
 line-buffer-requires : tie.Need-line-buffer-requires Inv-loop μ-loop
 line-buffer-requires c κs = tt
 
 slice-aggregate-line : tie.Need-slice-aggregate-line Inv-loop μ-loop
-slice-aggregate-line c = search needs
+slice-aggregate-line c = omega arith
 
 fresh-requires : tie.Need-fresh-requires Inv-loop μ-loop
 fresh-requires c κs = tt
@@ -34,35 +34,35 @@ loop-holds c = tt
 next-line-requires : tie.Need-next-line-requires Inv-loop μ-loop
 next-line-requires c κs = tt
 
-sub-answer-found : tie.Need-sub-answer-found Inv-loop μ-loop
-sub-answer-found c = search needs
+has-ended-requires : tie.Need-has-ended-requires Inv-loop μ-loop
+has-ended-requires c κs = tt
 
-part-answer-found-start : tie.Need-part-answer-found-start Inv-loop μ-loop
-part-answer-found-start c = search needs
+returns : tie.Need-returns Inv-loop μ-loop
+returns c = tt
 
-part-answer-found-end : tie.Need-part-answer-found-end Inv-loop μ-loop
-part-answer-found-end c = search needs
+sub-answer-line : tie.Need-sub-answer-line Inv-loop μ-loop
+sub-answer-line c = omega arith
 
-answer-found-requires : tie.Need-answer-found-requires Inv-loop μ-loop
-answer-found-requires c κs = tt
+part-answer-line-start : tie.Need-part-answer-line-start Inv-loop μ-loop
+part-answer-line-start c = omega arith
 
-goes-on-requires : tie.Need-goes-on-requires Inv-loop μ-loop
-goes-on-requires c κs = tt
+part-answer-line-end : tie.Need-part-answer-line-end Inv-loop μ-loop
+part-answer-line-end c = omega arith
+
+answer-line-requires : tie.Need-answer-line-requires Inv-loop μ-loop
+answer-line-requires c κs = tt
 
 sub-turns : tie.Need-sub-turns Inv-loop μ-loop
-sub-turns c = search needs
+sub-turns c = omega arith
 
 loop-less : tie.Need-loop-less Inv-loop μ-loop
-loop-less c = search needs
+loop-less c = omega arith
 
 loop-again : tie.Need-loop-again Inv-loop μ-loop
 loop-again c = tt
 
-returns : tie.Need-returns Inv-loop μ-loop
-returns c = search needs
-
 returns-2 : tie.Need-returns-2 Inv-loop μ-loop
-returns-2 c = search needs
+returns-2 c = tt
 
 pub answer-all-spec : {M : Type 1} → statement M
 answer-all-spec =
@@ -78,13 +78,13 @@ answer-all-spec =
     begin-requires
     loop-holds
     next-line-requires
-    sub-answer-found
-    part-answer-found-start
-    part-answer-found-end
-    answer-found-requires
-    goes-on-requires
+    has-ended-requires
+    returns
+    sub-answer-line
+    part-answer-line-start
+    part-answer-line-end
+    answer-line-requires
     sub-turns
     loop-less
     loop-again
-    returns
     returns-2)

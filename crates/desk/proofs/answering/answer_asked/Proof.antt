@@ -1,17 +1,23 @@
 -- `desk::answering::answer_asked` is safe and ends.
 -- Assumes nothing.
-use borrow.Author.Needs.{needs}
+use mathlib.Core.Path.{refl}
 use Rattle.desk.proofs.answering.answer_asked.Statement.{statement}
 use Rattle.desk.proofs.answering.answer_asked.Tie as tie
 
 enum-told : tie.Need-enum-told
-enum-told c = search needs
+enum-told c = c .match .keys1
 
-fresh-call-requires : tie.Need-fresh-call-requires
-fresh-call-requires c κs = tt
+slice-aggregate-say : tie.Need-slice-aggregate-say
+slice-aggregate-say c = refl
+
+say-requires : tie.Need-say-requires
+say-requires c κs = tt
+
+fresh-requires : tie.Need-fresh-requires
+fresh-requires c κs = tt
 
 enum-known-asked : tie.Need-enum-known-asked
-enum-known-asked c = search needs
+enum-known-asked c = c .match .keys2
 
 house-call-requires : tie.Need-house-call-requires
 house-call-requires c κs = tt
@@ -20,20 +26,22 @@ answer-alone-requires : tie.Need-answer-alone-requires
 answer-alone-requires c κs = tt
 
 returns : tie.Need-returns
-returns c = search needs
+returns c = tt
 
 returns-2 : tie.Need-returns-2
-returns-2 c = search needs
+returns-2 c = tt
 
 returns-3 : tie.Need-returns-3
-returns-3 c = search needs
+returns-3 c = tt
 
 pub answer-asked-spec : {M : Type 1} → statement M
 answer-asked-spec =
     tie.close
     (tie.spec
     enum-told
-    fresh-call-requires
+    slice-aggregate-say
+    say-requires
+    fresh-requires
     enum-known-asked
     house-call-requires
     answer-alone-requires

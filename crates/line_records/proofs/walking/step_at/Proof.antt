@@ -2,7 +2,9 @@
 -- Assumes nothing.
 use Prim.Native.Nat.{_-_}
 use native.Mathlib.Omega.{arith}
+use lib.ListN.{length}
 use denote.Ref.{now}
+use borrow.Author.Tests.{le-ltb}
 use borrow.Author.Needs.{needs}
 use Rattle.line_records.proofs.Places.{goes-field, goes-short, goes-missing}
 use Rattle.line_records.proofs.walking.step_at.Statement.{statement}
@@ -28,6 +30,8 @@ returns-3 c =
           (omega (arith, c .if2 .left)),
       s .pre,
       (λ short. tt),
+      rw (le-ltb (a .at) (length (now (a .s))) (c .before .if1 .left)),
+      rw (le-ltb (a .at) (length (now (a .s))) (c .before .if1 .left)),
     )
 
 -- ---- found by search

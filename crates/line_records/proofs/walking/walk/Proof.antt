@@ -1,7 +1,7 @@
 -- `line_records::walking::walk` meets its contract: the fields read, then the walk to come behind them, are the
 -- whole walk.
 -- Assumes nothing.
-use mathlib.Core.Path.{_≡_, refl, ap, sym, _∙_}
+use mathlib.Core.Path.{_≡_, refl, ap, _∙_}
 use Prim.Native.Nat.{_-_, _≤_, _<_}
 use native.Mathlib.Omega.{arith}
 use lib.ListN.{length, getD, length-set}
@@ -12,13 +12,14 @@ use Rattle.line_layouts.specs.declared.Field.{Field}
 use Rattle.line_layouts.specs.Columns.{columns, bar, noColumn}
 use Rattle.line_layouts.proofs.Laid.{most-columns}
 use Rattle.line_layouts.proofs.Fills.{Withins, within-none, within-set}
-use Rattle.line_layouts.proofs.Faults.{taken-refused}
+use Rattle.line_layouts.proofs.Faults.{held-refused}
 use Rattle.line_records.specs.Walks.{meant}
 use Rattle.line_records.specs.Records.{bodyMeans}
-use Rattle.line_records.specs.Places.{hiddenSaid}
+use Rattle.line_records.specs.Places.{hiddenSaid, lineAt}
 use Rattle.line_records.proofs.Places.{Filled, filled-first, filled-misfit, filled-on, filled-done}
 use Rattle.line_records.proofs.Places.{filled-over, within-hidden}
-use Rattle.line_records.proofs.Judges.{taken-said, short-column}
+use Rattle.line_records.proofs.Placing.{Placing, placing-first, placing-on, placing-done}
+use Rattle.line_records.proofs.Judges.{held-said, short-column}
 use Rattle.line_records.proofs.walking.walk.Statement.{statement}
 use Rattle.line_records.proofs.walking.walk.Tie as tie
 
@@ -26,6 +27,7 @@ abbrev Inv-loop : tie.InvT-loop
 Inv-loop order tag s count k fields₀ at₀ gone₀ j₀ fields at gone j =
     (j ≤ count) × (at ≤ length s) × (length fields ≡ 7) × Withins s fields
     × Filled (bar tag) order (columns tag) s fields at gone j
+    × Placing order (columns tag) s fields at gone j
 
 abbrev μ-loop : tie.MeasureT-loop
 μ-loop order tag s count k fields₀ at₀ gone₀ j₀ fields at gone j = count - j
@@ -38,6 +40,7 @@ loop-holds c =
       refl,
       within-none (now (a .s)),
       filled-first (bar (a .tag)) (a .order) (columns (a .tag)) (now (a .s)) _,
+      placing-first (a .order) (columns (a .tag)) (now (a .s)),
     )
 
 column-at-requires : tie.Need-column-at-requires Inv-loop μ-loop
@@ -56,7 +59,7 @@ returns c =
     let g = rw (c .before .enum-told .given .1, w .before .column-at .ensures, l .before .bar-of .ensures)
     at (w .step-at .ensures) in
     rw (c .refused-line .ensures)
-    (taken-refused s (bodyMeans (a .tag) (meant (a .order) (a .tag) s)) BodyMisfit
+    (held-refused s (lineAt (a .order) (a .tag) s) (bodyMeans (a .tag) (meant (a .order) (a .tag) s)) BodyMisfit
     (ap (bodyMeans (a .tag))
     (filled-misfit (bar (a .tag)) (a .order) (columns (a .tag)) s (l .loop .fields) (l .loop .at) (l .loop .gone)
     (l .loop .j) (l .loop .inv .4) (omega
@@ -100,6 +103,9 @@ loop-again c =
       rw (c .is-missing .ensures, is)
           (filled-on (bar (a .tag)) (a .order) (columns (a .tag)) s (l .loop .fields) (l .loop .at) (l .loop .gone) j
           (l .loop .inv .4) inside f (t .step .given .0 .1 .0) room g),
+      rw (c .is-missing .ensures, is)
+          (placing-on (a .order) (columns (a .tag)) s (l .loop .fields) (l .loop .at) (l .loop .gone) j (l .loop .inv .5)
+          inside f (t .step .given .0 .1 .0) (g .3) (g .4) room),
     )
 
 returns-2 : tie.Need-returns-2 Inv-loop μ-loop
@@ -109,7 +115,7 @@ returns-2 c =
     let a = l .before .before .before .before .args in
     let s = now (a .s) in
     rw (c .refused-line2 .ensures)
-    (taken-refused s (bodyMeans (a .tag) (meant (a .order) (a .tag) s)) BodyMisfit
+    (held-refused s (lineAt (a .order) (a .tag) s) (bodyMeans (a .tag) (meant (a .order) (a .tag) s)) BodyMisfit
     (ap (bodyMeans (a .tag))
     (filled-over (bar (a .tag)) (a .order) (columns (a .tag)) s (l .loop .fields) (l .loop .at) (l .loop .gone)
     (l .loop .j) (l .loop .inv .4) (omega (arith, o .loop-test .left, l .before .before .column-count .ensures .0))
@@ -123,10 +129,12 @@ returns-3 c =
     let s = now (a .s) in
     let count = l .before .before .column-count .ensures .0 in
     rw (c .said-line .ensures)
-    (taken-said (a .order) (a .tag) s (l .loop .fields) (l .loop .j)
+    (held-said (a .order) (a .tag) s (l .loop .fields) (l .loop .j)
     (omega (arith, o .loop-test .left, l .loop .inv .0, count)) (l .loop .inv .2) (l .loop .inv .3)
     (filled-done (bar (a .tag)) (a .order) (columns (a .tag)) s (l .loop .fields) (l .loop .at) (l .loop .gone)
-    (l .loop .j) (l .loop .inv .4) (omega (arith, o .loop-test .left, count)) (c .before .if1 .left)))
+    (l .loop .j) (l .loop .inv .4) (omega (arith, o .loop-test .left, count)) (c .before .if1 .left))
+    (placing-done (a .order) (columns (a .tag)) s (l .loop .fields) (l .loop .at) (l .loop .gone) (l .loop .j)
+    (l .loop .inv .5) (omega (arith, o .loop-test .left, count)) (most-columns (a .tag)) (l .loop .inv .2)))
 
 -- ---- found by search
 

@@ -5,8 +5,9 @@ use mathlib.Core.Bool.{true}
 use denote.Ref.{now}
 use borrow.Author.Tests.{not-true, not-false}
 use borrow.Author.Needs.{needs}
-use Rattle.line_texts.specs.Texts.{unbroken, contentMeans}
-use Rattle.line_texts.proofs.Whole.{taken-line, content-broken, content-tagged, tag-four}
+use Rattle.line_texts.specs.Texts.{unbroken}
+use Rattle.line_texts.specs.Places.{contentHeld}
+use Rattle.line_texts.proofs.Whole.{content-broken, content-tagged, tag-four}
 use Rattle.line_texts.proofs.contents.judge_content.Statement.{statement}
 use Rattle.line_texts.proofs.contents.judge_content.Tie as tie
 
@@ -14,12 +15,12 @@ whole : (c : tie.Else1) → unbroken (now (c .before .before .before .args .s)) 
 whole c = sym (c .before .is-unbroken .ensures) ∙ not-false (c .before .is-unbroken .result) (c .if1 .left)
 
 returns : tie.Need-returns
+unfolding contentHeld
 returns c =
     let a = c .before .before .before .before .args in
-    let s = now (a .s) in
     let told = c .before .before .is-unbroken in
-    rw (c .refused-line .ensures) (taken-line s (contentMeans (a .sep) s)
-    (content-broken (a .sep) s (sym (told .ensures) ∙ not-true (told .result) (c .before .if1 .taken))))
+    rw (content-broken (a .sep) (now (a .s)) (sym (told .ensures) ∙ not-true (told .result) (c .before .if1 .taken)))
+    (c .refused-line .ensures)
 
 judge-fields-requires : tie.Need-judge-fields-requires
 judge-fields-requires c κs =
@@ -27,20 +28,20 @@ judge-fields-requires c κs =
     (c .before .tag .given .0 .0) (sym (c .before .before .before .tag-of .ensures) ∙ c .before .tag .given .1)
 
 returns-2 : tie.Need-returns-2
+unfolding contentHeld
 returns-2 c =
     let a = c .before .before .before .before .before .before .before .before .args in
-    let s = now (a .s) in
     let tagged = sym (c .before .before .before .before .tag-of .ensures) ∙ c .before .before .tag .given .1 in
-    rw (content-tagged (a .sep) s (whole (c .before .before .before .before .before)), tagged)
+    rw (content-tagged (a .sep) (now (a .s)) (whole (c .before .before .before .before .before)), tagged)
     (c .judge-fields .ensures)
 
 returns-3 : tie.Need-returns-3
+unfolding contentHeld
 returns-3 c =
     let a = c .before .before .before .before .before .before .before .args in
-    let s = now (a .s) in
     let tagged = sym (c .before .before .before .tag-of .ensures) ∙ c .before .enum-told .given .1 in
-    rw (c .refused-line2 .ensures) (taken-line s (contentMeans (a .sep) s)
-    (rw (content-tagged (a .sep) s (whole (c .before .before .before .before)), tagged)))
+    rw (content-tagged (a .sep) (now (a .s)) (whole (c .before .before .before .before)), tagged)
+    (c .refused-line2 .ensures)
 
 -- ---- found by search
 

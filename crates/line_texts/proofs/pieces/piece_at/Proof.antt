@@ -32,15 +32,11 @@ returns-3 c =
 piece-end-requires : tie.Need-piece-end-requires
 piece-end-requires c κs = search needs
 
-sub-t9 : tie.Need-sub-t9
-sub-t9 c = search needs
+sub-if2 : tie.Need-sub-if2
+sub-if2 c = search needs
 
-add-t10 : tie.Need-add-t10
-add-t10 c = search needs
-
-sub-t11 : tie.Need-sub-t11
-sub-t11 c = search needs
+add-t11 : tie.Need-add-t11
+add-t11 c = search needs
 
 pub piece-at-spec : {M : Type 1} → statement M
-piece-at-spec =
-    tie.close (tie.spec returns piece-end-requires sub-t9 add-t10 sub-t11 returns-2 returns-3)
+piece-at-spec = tie.close (tie.spec returns piece-end-requires sub-if2 add-t11 returns-2 returns-3)

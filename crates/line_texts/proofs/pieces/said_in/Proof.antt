@@ -1,15 +1,14 @@
--- `line_texts::pieces::said_in` meets its contract: each return is one case of `entryIn`.
+-- `line_texts::pieces::said_in` meets its contract: each return is one case of `saidIn`.
 -- Assumes nothing.
-use mathlib.Core.Path.{_≡_, refl, sym, _∙_}
+use mathlib.Core.Path.{_≡_, sym, _∙_}
 use Prim.Native.Nat.{_+_, _-_}
 use native.Mathlib.Omega.{arith}
 use lib.ListN.{length}
 use denote.Ref.{now}
 use borrow.Author.Needs.{needs}
-use Rattle.digits.specs.Digits.{numeral}
 use Rattle.output.specs.Placed.{part}
 use Rattle.output.proofs.Laws.{length-part}
-use Rattle.line_texts.proofs.Fits.{piece-value, entry-empty, entry-value, number-holds, text-holds, short-most}
+use Rattle.line_texts.proofs.Fits.{piece-value, said-empty, said-value}
 use Rattle.line_texts.proofs.pieces.said_in.Statement.{statement}
 use Rattle.line_texts.proofs.pieces.said_in.Tie as tie
 
@@ -20,8 +19,7 @@ some c e =
     c .if1 .left (sym (length-part (a .at) (a .len) (now (a .text)) (c .before .before .pre .0)) ∙ e)
 
 returns : tie.Need-returns
-returns c =
-    rw (c .if1 .taken) (rw (entry-empty (c .before .before .args .column)) record { says = refl; there = tt })
+returns c = rw (c .if1 .taken, said-empty (c .before .before .args .column) (c .before .before .args .at))
 
 number-said-requires : tie.Need-number-said-requires
 number-said-requires c κs =
@@ -32,32 +30,29 @@ number-said-requires c κs =
     rw size (rw (
       piece-value (a .sep) (a .column) (part (a .at) (a .len) (now (a .text))) (some (c .before .before .before)),
       is,
-    ) at (s .pre .2))
+    ) at (s .pre .1))
 
 returns-2 : tie.Need-returns-2
 returns-2 c =
     let a = c .before .before .before .before .before .before .args in
+    let p = part (a .at) (a .len) (now (a .text)) in
     let size : a .at + a .len - a .at ≡ a .len = omega arith in
     let is = sym (c .before .before .before .is-number .ensures) ∙ c .before .before .if2 .taken in
-    rw (
-      entry-value (a .column) (part (a .at) (a .len) (now (a .text))) (some (c .before .before .before .before)),
-      is,
-      c .number-said .ensures,
-      size,
-    )
-    (number-holds (now (a .text)) (numeral (part (a .at) (a .len) (now (a .text)))))
+    rw (said-value (a .column) (a .at) p (some (c .before .before .before .before)), is)
+    (rw size at (c .number-said .ensures))
 
 returns-3 : tie.Need-returns-3
 returns-3 c =
     let s = c .before .before .before .before .before .before in
     let a = s .args in
+    let p = part (a .at) (a .len) (now (a .text)) in
     let is = sym (c .before .before .before .is-number .ensures) ∙ c .before .before .if2 .left in
     rw (
-      entry-value (a .column) (part (a .at) (a .len) (now (a .text))) (some (c .before .before .before .before)),
+      said-value (a .column) (a .at) p (some (c .before .before .before .before)),
       is,
+      length-part (a .at) (a .len) (now (a .text)) (s .pre .0),
       c .shorter .ensures,
     )
-    (text-holds (a .at) (a .len) (a .column .1) (now (a .text)) (s .pre .0) (short-most (a .column) (s .pre .1) is))
 
 -- ---- found by search
 

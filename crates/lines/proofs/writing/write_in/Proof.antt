@@ -18,7 +18,7 @@ framed c =
     let a = c .before .before .before .before .before .before .args in
     let judge = c .before .before .before .judge-record in
     says-record (a .order) (now (a .«record»)) (meaningOf (body (now (a .«record»))) (judge .result .line))
-    (sym (judge .ensures .means) ∙ rw (c .enum-told .given .1))
+    (sym (judge .ensures .taken .means) ∙ rw (c .enum-told .given .1))
 
 sub-write-said : tie.Need-sub-write-said
 sub-write-said c =
@@ -32,17 +32,17 @@ write-said-requires : tie.Need-write-said-requires
 write-said-requires c κs =
     let s = c .before .before .before .before .before .before .before .before in
     rw (part-from (now (s .args .«record»)) 4)
-    (c .before .before .before .before .before .judge-record .ensures .there (c .before .before .enum-told .given .1))
+    (c .before .before .before .before .before .judge-record .ensures .taken .there (c .before .before .enum-told .given .1))
 
 returns : tie.Need-returns
 returns c =
-    rw (← c .before .before .before .before .judge-record .ensures .means, c .before .fault .given .1)
+    rw (← c .before .before .before .before .before .before .before .before .judge-record .ensures .taken .means, c .before .before .before .before .before .fault .given .1) (c .before .before .refuse .ensures)
 
 returns-2 : tie.Need-returns-2
 returns-2 c =
     let a = c .before .before .before .before .before .before .before .before .before .before .before .args in
     let judge = c .before .before .before .before .before .before .before .before .judge-record .ensures in
-    rw (← judge .means, c .before .before .before .before .before .enum-told .given .1)
+    rw (← judge .taken .means, c .before .before .before .before .before .enum-told .given .1)
     (rw (part-from (now (a .«record»)) 4) at (c .before .before .write-said .ensures))
 
 -- ---- found by search
@@ -59,8 +59,14 @@ enum-told c = search needs
 part-write-said-end : tie.Need-part-write-said-end
 part-write-said-end c = search needs
 
+refuse-requires : tie.Need-refuse-requires
+refuse-requires c κs = tt
+
 same-length : tie.Need-same-length
 same-length c = search needs
+
+same-length-2 : tie.Need-same-length-2
+same-length-2 c = search needs
 
 pub write-in-spec : {M : Type 1} → statement M
 write-in-spec =
@@ -68,11 +74,13 @@ write-in-spec =
     (tie.spec
     judge-record-requires
     enum-known-fault
+    refuse-requires
     enum-told
     sub-write-said
     part-write-said-start
     part-write-said-end
     write-said-requires
-    returns
     same-length
+    returns
+    same-length-2
     returns-2)

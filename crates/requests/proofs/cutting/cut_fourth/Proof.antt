@@ -6,9 +6,9 @@ use Prim.Native.Nat.{_-_, _+_}
 use native.Mathlib.Omega.{arith}
 use lib.ListN.{take, drop}
 use denote.Ref.{now}
-use Rattle.requests.specs.Asked.{Word}
+use Rattle.asking.specs.Asks.{Word}
 use Rattle.script.proofs.WordLaws.{cut-more}
-use Rattle.requests.proofs.AskLaws.{five-none}
+use Rattle.asking.proofs.Laws.{five-none}
 use Rattle.requests.proofs.CutLaws.{found-none, found-last}
 use borrow.Author.Needs.{needs}
 use Rattle.requests.proofs.cutting.cut_fourth.Statement.{statement}

@@ -4,7 +4,7 @@ use mathlib.Core.Path.{refl}
 use mathlib.Core.List.{List, _∷_}
 use native.Mathlib.Omega.{arith}
 use denote.Ref.{now}
-use Rattle.requests.specs.Asked.{Word}
+use Rattle.asking.specs.Asks.{Word}
 use Rattle.requests.proofs.CutLaws.{found-last, found-more}
 use borrow.Author.Needs.{needs}
 use Rattle.requests.proofs.cutting.cut_second.Statement.{statement}

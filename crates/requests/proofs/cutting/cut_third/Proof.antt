@@ -5,9 +5,9 @@ use Prim.Native.Nat.{_-_}
 use native.Mathlib.Omega.{arith}
 use lib.ListN.{length, take, drop}
 use denote.Ref.{now}
-use Rattle.requests.specs.Asked.{Word}
+use Rattle.asking.specs.Asks.{Word}
 use Rattle.script.proofs.WordLaws.{cut-last}
-use Rattle.requests.proofs.AskLaws.{three-none}
+use Rattle.asking.proofs.Laws.{three-none}
 use Rattle.requests.proofs.CutLaws.{found-none, found-more}
 use borrow.Author.Needs.{needs}
 use Rattle.requests.proofs.cutting.cut_third.Statement.{statement}

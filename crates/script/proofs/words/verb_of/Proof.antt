@@ -1,8 +1,9 @@
 -- `script::words::verb_of` meets its contract: a word that is none of the first verbs is looked for among the rest.
 -- Assumes nothing.
-use mathlib.Core.Path.{_≡_, refl, sym, _∙_}
+use mathlib.Core.Path.{_≡_, sym, _∙_}
 use mathlib.Core.List.{List}
 use Prim.Native.Nat.{ℕ}
+use native.Mathlib.Omega.{arith}
 use lib.ListN.{drop}
 use denote.Ref.{now}
 use Rattle.script.specs.Words.{verbs, verbIn, verbOf}
@@ -10,158 +11,140 @@ use Rattle.script.proofs.words.verb_of.Statement.{statement}
 use Rattle.script.proofs.words.verb_of.Tie as tie
 
 abbrev text1 : tie.Else1 → List ℕ
-text1 c = now (c .before .before .before .before .args .word)
+text1 c = now (c .before .before .before .args .word)
 
 left1 : (c : tie.Else1) → verbOf (text1 c) ≡ verbIn (drop 1 verbs) (text1 c)
 unfolding verbOf
-left1 c = rw (sym (c .before .is-name .ensures) ∙ c .if1 .left)
+left1 c = rw (sym (c .before .is-verb .ensures) ∙ c .if1 .left)
 
 abbrev text2 : tie.Else2 → List ℕ
-text2 c = text1 (c .before .before .before)
+text2 c = text1 (c .before .before)
 
 left2 : (c : tie.Else2) → verbOf (text2 c) ≡ verbIn (drop 2 verbs) (text2 c)
-left2 c = left1 (c .before .before .before) ∙ rw (sym (c .before .is-name2 .ensures) ∙ c .if2 .left)
+left2 c = left1 (c .before .before) ∙ rw (sym (c .before .is-verb2 .ensures) ∙ c .if2 .left)
 
 abbrev text3 : tie.Else3 → List ℕ
-text3 c = text2 (c .before .before .before)
+text3 c = text2 (c .before .before)
 
 left3 : (c : tie.Else3) → verbOf (text3 c) ≡ verbIn (drop 3 verbs) (text3 c)
-left3 c = left2 (c .before .before .before) ∙ rw (sym (c .before .is-name3 .ensures) ∙ c .if3 .left)
+left3 c = left2 (c .before .before) ∙ rw (sym (c .before .is-verb3 .ensures) ∙ c .if3 .left)
 
 abbrev text4 : tie.Else4 → List ℕ
-text4 c = text3 (c .before .before .before)
+text4 c = text3 (c .before .before)
 
 left4 : (c : tie.Else4) → verbOf (text4 c) ≡ verbIn (drop 4 verbs) (text4 c)
-left4 c = left3 (c .before .before .before) ∙ rw (sym (c .before .is-name4 .ensures) ∙ c .if4 .left)
+left4 c = left3 (c .before .before) ∙ rw (sym (c .before .is-verb4 .ensures) ∙ c .if4 .left)
 
 abbrev text5 : tie.Else5 → List ℕ
-text5 c = text4 (c .before .before .before)
+text5 c = text4 (c .before .before)
 
 left5 : (c : tie.Else5) → verbOf (text5 c) ≡ verbIn (drop 5 verbs) (text5 c)
-left5 c = left4 (c .before .before .before) ∙ rw (sym (c .before .is-name5 .ensures) ∙ c .if5 .left)
+left5 c = left4 (c .before .before) ∙ rw (sym (c .before .is-verb5 .ensures) ∙ c .if5 .left)
 
 abbrev text6 : tie.Else6 → List ℕ
-text6 c = text5 (c .before .before .before)
+text6 c = text5 (c .before .before)
 
 left6 : (c : tie.Else6) → verbOf (text6 c) ≡ verbIn (drop 6 verbs) (text6 c)
-left6 c = left5 (c .before .before .before) ∙ rw (sym (c .before .is-name6 .ensures) ∙ c .if6 .left)
+left6 c = left5 (c .before .before) ∙ rw (sym (c .before .is-verb6 .ensures) ∙ c .if6 .left)
 
 abbrev text7 : tie.Else7 → List ℕ
-text7 c = text6 (c .before .before .before)
+text7 c = text6 (c .before .before)
 
 left7 : (c : tie.Else7) → verbOf (text7 c) ≡ verbIn (drop 7 verbs) (text7 c)
-left7 c = left6 (c .before .before .before) ∙ rw (sym (c .before .is-name7 .ensures) ∙ c .if7 .left)
+left7 c = left6 (c .before .before) ∙ rw (sym (c .before .is-verb7 .ensures) ∙ c .if7 .left)
 
 abbrev text8 : tie.Else8 → List ℕ
-text8 c = text7 (c .before .before .before)
+text8 c = text7 (c .before .before)
 
 left8 : (c : tie.Else8) → verbOf (text8 c) ≡ verbIn (drop 8 verbs) (text8 c)
-left8 c = left7 (c .before .before .before) ∙ rw (sym (c .before .is-name8 .ensures) ∙ c .if8 .left)
+left8 c = left7 (c .before .before) ∙ rw (sym (c .before .is-verb8 .ensures) ∙ c .if8 .left)
+
+abbrev text9 : tie.Else9 → List ℕ
+text9 c = text8 (c .before .before)
+
+left9 : (c : tie.Else9) → verbOf (text9 c) ≡ verbIn (drop 9 verbs) (text9 c)
+left9 c = left8 (c .before .before) ∙ rw (sym (c .before .is-verb9 .ensures) ∙ c .if9 .left)
 
 returns : tie.Need-returns
 unfolding verbOf
-returns c = rw (sym (c .before .is-name .ensures) ∙ c .if1 .taken)
+returns c = rw (sym (c .before .is-verb .ensures) ∙ c .if1 .taken)
 
 returns-2 : tie.Need-returns-2
-returns-2 c = sym (left1 (c .before .before .before) ∙ rw (sym (c .before .is-name2 .ensures) ∙ c .if2 .taken))
+returns-2 c = sym (left1 (c .before .before) ∙ rw (sym (c .before .is-verb2 .ensures) ∙ c .if2 .taken))
 
 returns-3 : tie.Need-returns-3
-returns-3 c = sym (left2 (c .before .before .before) ∙ rw (sym (c .before .is-name3 .ensures) ∙ c .if3 .taken))
+returns-3 c = sym (left2 (c .before .before) ∙ rw (sym (c .before .is-verb3 .ensures) ∙ c .if3 .taken))
 
 returns-4 : tie.Need-returns-4
-returns-4 c = sym (left3 (c .before .before .before) ∙ rw (sym (c .before .is-name4 .ensures) ∙ c .if4 .taken))
+returns-4 c = sym (left3 (c .before .before) ∙ rw (sym (c .before .is-verb4 .ensures) ∙ c .if4 .taken))
 
 returns-5 : tie.Need-returns-5
-returns-5 c = sym (left4 (c .before .before .before) ∙ rw (sym (c .before .is-name5 .ensures) ∙ c .if5 .taken))
+returns-5 c = sym (left4 (c .before .before) ∙ rw (sym (c .before .is-verb5 .ensures) ∙ c .if5 .taken))
 
 returns-6 : tie.Need-returns-6
-returns-6 c = sym (left5 (c .before .before .before) ∙ rw (sym (c .before .is-name6 .ensures) ∙ c .if6 .taken))
+returns-6 c = sym (left5 (c .before .before) ∙ rw (sym (c .before .is-verb6 .ensures) ∙ c .if6 .taken))
 
 returns-7 : tie.Need-returns-7
-returns-7 c = sym (left6 (c .before .before .before) ∙ rw (sym (c .before .is-name7 .ensures) ∙ c .if7 .taken))
+returns-7 c = sym (left6 (c .before .before) ∙ rw (sym (c .before .is-verb7 .ensures) ∙ c .if7 .taken))
 
 returns-8 : tie.Need-returns-8
-returns-8 c = sym (left7 (c .before .before .before) ∙ rw (sym (c .before .is-name8 .ensures) ∙ c .if8 .taken))
+returns-8 c = sym (left7 (c .before .before) ∙ rw (sym (c .before .is-verb8 .ensures) ∙ c .if8 .taken))
 
 returns-9 : tie.Need-returns-9
-returns-9 c = sym (left8 c)
+returns-9 c = sym (left8 (c .before .before) ∙ rw (sym (c .before .is-verb9 .ensures) ∙ c .if9 .taken))
+
+returns-10 : tie.Need-returns-10
+returns-10 c = sym (left9 c)
 
 -- ---- found by search
 
-slice-aggregate-is-name : tie.Need-slice-aggregate-is-name
-slice-aggregate-is-name c = refl
+is-verb-requires : tie.Need-is-verb-requires
+is-verb-requires c κs = (omega arith, omega arith)
 
-is-name-requires : tie.Need-is-name-requires
-is-name-requires c κs = tt
+is-verb-requires-2 : tie.Need-is-verb-requires-2
+is-verb-requires-2 c κs = (omega arith, omega arith)
 
-slice-aggregate-is-name-2 : tie.Need-slice-aggregate-is-name-2
-slice-aggregate-is-name-2 c = refl
+is-verb-requires-3 : tie.Need-is-verb-requires-3
+is-verb-requires-3 c κs = (omega arith, omega arith)
 
-is-name-requires-2 : tie.Need-is-name-requires-2
-is-name-requires-2 c κs = tt
+is-verb-requires-4 : tie.Need-is-verb-requires-4
+is-verb-requires-4 c κs = (omega arith, omega arith)
 
-slice-aggregate-is-name-3 : tie.Need-slice-aggregate-is-name-3
-slice-aggregate-is-name-3 c = refl
+is-verb-requires-5 : tie.Need-is-verb-requires-5
+is-verb-requires-5 c κs = (omega arith, omega arith)
 
-is-name-requires-3 : tie.Need-is-name-requires-3
-is-name-requires-3 c κs = tt
+is-verb-requires-6 : tie.Need-is-verb-requires-6
+is-verb-requires-6 c κs = (omega arith, omega arith)
 
-slice-aggregate-is-name-4 : tie.Need-slice-aggregate-is-name-4
-slice-aggregate-is-name-4 c = refl
+is-verb-requires-7 : tie.Need-is-verb-requires-7
+is-verb-requires-7 c κs = (omega arith, omega arith)
 
-is-name-requires-4 : tie.Need-is-name-requires-4
-is-name-requires-4 c κs = tt
+is-verb-requires-8 : tie.Need-is-verb-requires-8
+is-verb-requires-8 c κs = (omega arith, omega arith)
 
-slice-aggregate-is-name-5 : tie.Need-slice-aggregate-is-name-5
-slice-aggregate-is-name-5 c = refl
-
-is-name-requires-5 : tie.Need-is-name-requires-5
-is-name-requires-5 c κs = tt
-
-slice-aggregate-is-name-6 : tie.Need-slice-aggregate-is-name-6
-slice-aggregate-is-name-6 c = refl
-
-is-name-requires-6 : tie.Need-is-name-requires-6
-is-name-requires-6 c κs = tt
-
-slice-aggregate-is-name-7 : tie.Need-slice-aggregate-is-name-7
-slice-aggregate-is-name-7 c = refl
-
-is-name-requires-7 : tie.Need-is-name-requires-7
-is-name-requires-7 c κs = tt
-
-slice-aggregate-is-name-8 : tie.Need-slice-aggregate-is-name-8
-slice-aggregate-is-name-8 c = refl
-
-is-name-requires-8 : tie.Need-is-name-requires-8
-is-name-requires-8 c κs = tt
+is-verb-requires-9 : tie.Need-is-verb-requires-9
+is-verb-requires-9 c κs = (omega arith, omega arith)
 
 pub verb-of-spec : {M : Type 1} → statement M
 verb-of-spec =
     tie.close
     (tie.spec
-    slice-aggregate-is-name
-    is-name-requires
+    is-verb-requires
     returns
-    slice-aggregate-is-name-2
-    is-name-requires-2
+    is-verb-requires-2
     returns-2
-    slice-aggregate-is-name-3
-    is-name-requires-3
+    is-verb-requires-3
     returns-3
-    slice-aggregate-is-name-4
-    is-name-requires-4
+    is-verb-requires-4
     returns-4
-    slice-aggregate-is-name-5
-    is-name-requires-5
+    is-verb-requires-5
     returns-5
-    slice-aggregate-is-name-6
-    is-name-requires-6
+    is-verb-requires-6
     returns-6
-    slice-aggregate-is-name-7
-    is-name-requires-7
+    is-verb-requires-7
     returns-7
-    slice-aggregate-is-name-8
-    is-name-requires-8
+    is-verb-requires-8
     returns-8
-    returns-9)
+    is-verb-requires-9
+    returns-9
+    returns-10)

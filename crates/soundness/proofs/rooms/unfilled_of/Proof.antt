@@ -2,23 +2,22 @@
 -- Assumes nothing.
 use mathlib.Core.Path.{sym}
 use borrow.Author.Needs.{needs}
-use borrow.Author.Tests.{not-true, not-false}
 use Rattle.house.proofs.Laws.{unfilled-closed, unfilled-none, unfilled-some}
 use Rattle.soundness.proofs.rooms.unfilled_of.Statement.{statement}
 use Rattle.soundness.proofs.rooms.unfilled_of.Tie as tie
 
 returns : tie.Need-returns
-returns c = sym (unfilled-closed _ _ _ (not-true _ (c .if1 .taken)))
+returns c =
+    sym (unfilled-none _ _ _ (c .before .before .before .before .if1 .taken) _ (c .before .held-by .ensures)
+    (c .if2 .taken))
 
 returns-2 : tie.Need-returns-2
 returns-2 c =
-    sym (unfilled-none _ _ _ (not-false _ (c .before .before .before .before .if1 .left)) _
-    (c .before .held-by .ensures) (c .if2 .taken))
+    sym (unfilled-some _ _ _ (c .before .before .before .before .if1 .taken) _ (c .before .held-by .ensures)
+    (c .if2 .left))
 
 returns-3 : tie.Need-returns-3
-returns-3 c =
-    sym (unfilled-some _ _ _ (not-false _ (c .before .before .before .before .if1 .left)) _
-    (c .before .held-by .ensures) (c .if2 .left))
+returns-3 c = sym (unfilled-closed _ _ _ (c .if1 .left))
 
 -- ---- found by search
 
@@ -33,4 +32,4 @@ cast-result c = search needs
 
 pub unfilled-of-spec : {M : Type 1} → statement M
 unfilled-of-spec =
-    tie.close (tie.spec returns cast-floor held-by-requires returns-2 cast-result returns-3)
+    tie.close (tie.spec cast-floor held-by-requires returns cast-result returns-2 returns-3)

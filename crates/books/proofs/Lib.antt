@@ -1,0 +1,10 @@
+pub mod Parts
+pub mod Following
+pub mod Booked
+pub mod Told
+pub mod Rooms
+pub mod Meaning
+pub mod Accepting
+pub mod Spelling
+pub mod Right
+pub mod Whole

@@ -1,0 +1,3 @@
+pub mod Following
+pub mod Lent
+pub mod Laws

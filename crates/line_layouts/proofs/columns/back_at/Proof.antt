@@ -1,0 +1,48 @@
+-- `line_layouts::columns::back_at` meets its contract: a column inside each tag.
+-- Assumes nothing.
+use borrow.Author.Needs.{needs}
+use Rattle.line_layouts.proofs.columns.back_at.Statement.{statement}
+use Rattle.line_layouts.proofs.columns.back_at.Tie as tie
+
+pcr-back-requires : tie.Need-pcr-back-requires
+pcr-back-requires c κs = rw (c .enum-told .given .1) at (c .before .before .pre)
+
+bin-back-requires : tie.Need-bin-back-requires
+bin-back-requires c κs = rw (c .enum-told2 .given .1) at (c .before .before .pre)
+
+bin-back-requires-2 : tie.Need-bin-back-requires-2
+bin-back-requires-2 c κs = rw (c .enum-told3 .given .1) at (c .before .before .pre)
+
+-- ---- found by search
+
+enum-told : tie.Need-enum-told
+enum-told c = search needs
+
+enum-told-2 : tie.Need-enum-told-2
+enum-told-2 c = search needs
+
+enum-told-3 : tie.Need-enum-told-3
+enum-told-3 c = search needs
+
+returns : tie.Need-returns
+returns c = search needs
+
+returns-2 : tie.Need-returns-2
+returns-2 c = search needs
+
+returns-3 : tie.Need-returns-3
+returns-3 c = search needs
+
+pub back-at-spec : {M : Type 1} → statement M
+back-at-spec =
+    tie.close
+    (tie.spec
+    enum-told
+    pcr-back-requires
+    enum-told-2
+    bin-back-requires
+    enum-told-3
+    bin-back-requires-2
+    returns
+    returns-2
+    returns-3)

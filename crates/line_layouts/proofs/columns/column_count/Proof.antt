@@ -1,0 +1,30 @@
+-- `line_layouts::columns::column_count` meets its contract: each arm is one table.
+-- Assumes nothing.
+use native.Mathlib.Omega.{arith}
+use borrow.Author.Needs.{needs}
+use Rattle.line_layouts.proofs.columns.column_count.Statement.{statement}
+use Rattle.line_layouts.proofs.columns.column_count.Tie as tie
+
+returns : tie.Need-returns
+returns c = (rw (c .enum-told .given .1), omega arith)
+
+returns-2 : tie.Need-returns-2
+returns-2 c = (rw (c .enum-told2 .given .1), omega arith)
+
+returns-3 : tie.Need-returns-3
+returns-3 c = (rw (c .enum-told3 .given .1), omega arith)
+
+-- ---- found by search
+
+enum-told : tie.Need-enum-told
+enum-told c = search needs
+
+enum-told-2 : tie.Need-enum-told-2
+enum-told-2 c = search needs
+
+enum-told-3 : tie.Need-enum-told-3
+enum-told-3 c = search needs
+
+pub column-count-spec : {M : Type 1} → statement M
+column-count-spec =
+    tie.close (tie.spec enum-told enum-told-2 enum-told-3 returns returns-2 returns-3)

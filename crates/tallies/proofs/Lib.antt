@@ -1,0 +1,4 @@
+pub mod Order
+pub mod Tally
+pub mod Once
+pub mod Packed
