@@ -43,9 +43,9 @@ fn deliver_all(house: House, recs: &[u8], split: usize) -> House
     let mut h = house;
     let mut turns = TURNS;
     while turns > 0 {
-        let one = calls::deliver(h, 0, first);
+        let one = deliveries::deliver(h, 0, first);
         h = one.house;
-        let two = calls::deliver(h, 0, second);
+        let two = deliveries::deliver(h, 0, second);
         h = two.house;
         turns -= 1;
     }

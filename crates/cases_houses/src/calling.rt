@@ -2,10 +2,10 @@
 use answers::Answer;
 use answers::number;
 use calls::close_slot;
-use calls::deliver;
 use calls::figures;
 use calls::open_slot;
 use case_lines::say_values;
+use deliveries::deliver;
 use house::House;
 use reports::judge_report;
 

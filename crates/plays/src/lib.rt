@@ -76,7 +76,7 @@ pub fn play(house: House, call: Call, rec: &[u8]) -> Played
 {
     match call {
         Call::Open(slot, floor) => told(calls::open_slot(house, slot, floor)),
-        Call::Deliver(slot) => told(calls::deliver(house, slot, rec)),
+        Call::Deliver(slot) => told(deliveries::deliver(house, slot, rec)),
         Call::Report(slot, long) => listed(list_rows(house, slot, long), house),
         Call::Close(slot) => told(calls::close_slot(house, slot)),
         Call::Figures => read(calls::figures(house), house),

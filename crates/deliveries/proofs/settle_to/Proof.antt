@@ -1,4 +1,4 @@
--- `calls::settle_to` meets its contract: a verdict that asks for no row changes the session of its slot alone.
+-- `deliveries::settle_to` meets its contract: a verdict that asks for no row changes the session of its slot alone.
 -- Assumes nothing.
 use mathlib.Core.Path.{_≡_, ap, sym, _∙_}
 use mathlib.Core.Bool.{true}
@@ -8,8 +8,8 @@ use Rattle.session.proofs.Laws.{sound-parts-told}
 use Rattle.settling.proofs.Laws.{settles-taken}
 use Rattle.house.specs.declared.Slot.{Slot}
 use Rattle.house.proofs.Calling.{open-session, laid-refused, laid-taken}
-use Rattle.calls.proofs.settle_to.Statement.{statement}
-use Rattle.calls.proofs.settle_to.Tie as tie
+use Rattle.deliveries.proofs.settle_to.Statement.{statement}
+use Rattle.deliveries.proofs.settle_to.Tie as tie
 
 sounded : (c : tie.Start) → session.sound (c .args .s .session) ≡ true
 sounded c =

@@ -1,4 +1,4 @@
--- `calls::judge_slot` meets its contract: a sound session's parts may be lent.
+-- `deliveries::judge_slot` meets its contract: a sound session's parts may be lent.
 -- Assumes nothing.
 use mathlib.Core.Path.{_≡_, sym, subst}
 use lib.ListN.{length}
@@ -8,8 +8,8 @@ use Rattle.session.specs.Session.{LentParts}
 use Rattle.session.proofs.Laws.{sound-lent}
 use Rattle.settling.specs.Settling.{Settles}
 use Rattle.judging.proofs.Laws.{judged-settles}
-use Rattle.calls.proofs.judge_slot.Statement.{statement}
-use Rattle.calls.proofs.judge_slot.Tie as tie
+use Rattle.deliveries.proofs.judge_slot.Statement.{statement}
+use Rattle.deliveries.proofs.judge_slot.Tie as tie
 
 cells : (c : tie.Start) → length (c .args .s .session .parts) ≡ 32
 cells c = search needs

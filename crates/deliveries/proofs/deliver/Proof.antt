@@ -1,4 +1,4 @@
--- `calls::deliver` meets its contract: each return is one case of its definition.
+-- `deliveries::deliver` meets its contract: each return is one case of its definition.
 -- Assumes nothing.
 use mathlib.Core.Path.{_≡_, sym, _∙_, refl}
 use mathlib.Core.Bool.{true}
@@ -9,8 +9,8 @@ use Rattle.house.specs.House.{sound, promised}
 use Rattle.house.proofs.Laws.{told-sound, told-unsound, told-promised}
 use Rattle.house.proofs.Calling.{deliver-unsound, deliver-no-slot, deliver-shut, deliver-judged, open-session}
 use Rattle.house.proofs.Calling.{laid-judged}
-use Rattle.calls.proofs.deliver.Statement.{statement}
-use Rattle.calls.proofs.deliver.Tie as tie
+use Rattle.deliveries.proofs.deliver.Statement.{statement}
+use Rattle.deliveries.proofs.deliver.Tie as tie
 
 -- what the test of the house told
 module _ (fine : tie.Else1) where

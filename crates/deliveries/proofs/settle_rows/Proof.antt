@@ -1,4 +1,4 @@
--- `calls::settle_rows` meets its contract: an open slot of a sound house lends its session and all rows, and takes them
+-- `deliveries::settle_rows` meets its contract: an open slot of a sound house lends its session and all rows, and takes them
 -- back.
 -- Assumes nothing.
 use mathlib.Core.Path.{_≡_, _∙_}
@@ -10,8 +10,8 @@ use Rattle.house.specs.House.{keysOf}
 use Rattle.house.specs.Calls.{roomOf}
 use Rattle.house.proofs.Laws.{lent-keys}
 use Rattle.house.proofs.Calling.{told-lent, room-is, own-within, lent-to, laid-back}
-use Rattle.calls.proofs.settle_rows.Statement.{statement}
-use Rattle.calls.proofs.settle_rows.Tie as tie
+use Rattle.deliveries.proofs.settle_rows.Statement.{statement}
+use Rattle.deliveries.proofs.settle_rows.Tie as tie
 
 cells : (c : tie.Start) → length (c .args .s .session .parts) ≡ 32
 cells c = search needs
