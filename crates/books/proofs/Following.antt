@@ -47,9 +47,12 @@ use Rattle.first_record.specs.First.{inOrder, judgeFirst, orderIn}
 use Rattle.first_record.specs.Laws.{firstChecks}
 use Rattle.first_record.proofs.Accepted.{first-accepted}
 use Rattle.first_record.proofs.Checks.{first-cases, first-number}
-use Rattle.later_records.specs.Later.{at, withPcr, opens, closes, judgeSaid, judgeLater}
-use Rattle.later_records.specs.Laws.{ownChecks, laterChecks}
-use Rattle.later_records.proofs.Checks.{quiet, later-cases, said-cases, later-number}
+use Rattle.kind_effects.specs.Effects.{withPcr, opens, closes, judgeSaid}
+use Rattle.kind_effects.specs.Laws.{ownChecks}
+use Rattle.kind_effects.proofs.Cases.{quiet, said-cases}
+use Rattle.later_records.specs.Later.{at, judgeLater}
+use Rattle.later_records.specs.Laws.{laterChecks}
+use Rattle.later_records.proofs.Checks.{later-cases, later-number}
 use Rattle.judging.specs.Judge.{verdictOn}
 use Rattle.judging.proofs.Laws.{judged-first, judged-later, parts-opened, parts-closed}
 use Rattle.tallies.specs.Results.{PartResult}

@@ -28,7 +28,8 @@ use Rattle.order.proofs.Spelled.{spelled, spelled-ends, walks-on}
 use Rattle.session.specs.Session.{isStart}
 use Rattle.first_record.specs.Laws.{firstChecks}
 use Rattle.first_record.proofs.Accepted.{first-in-place}
-use Rattle.later_records.specs.Laws.{ownChecks, laterChecks}
+use Rattle.kind_effects.specs.Laws.{ownChecks}
+use Rattle.later_records.specs.Laws.{laterChecks}
 use Rattle.rows.specs.Rows.{slotCount}
 use Rattle.house.specs.House.{fresh}
 use Rattle.house.specs.History.{Call, Deliver, history, AllSent}

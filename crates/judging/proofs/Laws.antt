@@ -1,5 +1,5 @@
 -- The statements of specs/Laws.antt, proved. Every verdict is a refusal, or one of six ways to be accepted: `judge-
--- cases` and later_records' `said-cases` say so once, and each law is shown of the six.
+-- cases` and kind_effects' `said-cases` say so once, and each law is shown of the six.
 -- Assumes nothing.
 use mathlib.Core.Path.{_≡_, refl, ap, sym, subst, _∙_}
 use mathlib.Core.Bool.{Bool, true, false, cond}
@@ -42,9 +42,11 @@ use Rattle.session.proofs.Laws.{stands-before, start-before, past-start}
 use Rattle.settling.specs.Settling.{changed, after, countedParts, Settles}
 use Rattle.first_record.specs.First.{inOrder, judgeFirst, orderIn}
 use Rattle.first_record.proofs.Checks.{first-cases}
-use Rattle.later_records.specs.Later.{at, withPcr, withPart, withResult, opens, closes, judgeSaid, judgeLater}
+use Rattle.kind_effects.specs.Effects.{withPcr, withPart, withResult, opens, closes, judgeSaid}
+use Rattle.kind_effects.proofs.Cases.{quiet, said-cases}
+use Rattle.later_records.specs.Later.{at, judgeLater}
 use Rattle.later_records.specs.Results.{resultIn, resultRead, resultOf}
-use Rattle.later_records.proofs.Checks.{quiet, later-cases, said-cases, mrr-at-end, in-body, quiet-none}
+use Rattle.later_records.proofs.Checks.{later-cases, mrr-at-end, in-body, quiet-none}
 use Rattle.later_records.proofs.Checks.{pir-no-mrr, prr-no-mrr, pcr-no-mrr}
 use Rattle.judging.specs.Judge.{judge, verdictOn, judged}
 use Rattle.judging.specs.Laws.{JudgedFirst, JudgedLater, JudgedSettles, JudgedSound, JudgedCounts, JudgedFew}

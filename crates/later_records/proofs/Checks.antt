@@ -1,15 +1,12 @@
--- The ways in which a later record is judged, as laws by which every other is shown: a refusal, or one of five ways to
--- be accepted. And its order of checks as a list (specs/Laws.antt), proved.
+-- The ways in which a later record is judged, as a law by which every other is shown: a refusal, or what its kind does.
+-- And its order of checks as a list (specs/Laws.antt), proved.
 -- Assumes nothing.
 use mathlib.Core.Path.{_≡_, refl, ap, _∙_}
-use mathlib.Core.Bool.{Bool, true, false, not, _&&_, false≢true}
+use mathlib.Core.Bool.{true, false, false≢true}
 use mathlib.Core.List.{List}
-use Prim.Native.Nat.{ℕ, _<_}
+use Prim.Native.Nat.{ℕ}
 use native.Mathlib.Omega.{arith}
-use borrow.Author.Tests.{ltb-true, not-true}
-use lib.Dec.{eqb, ltb}
 use Rattle.prelude.specs.Choice.{_unless_then_}
-use Rattle.prelude.specs.Checks.{numberBy}
 use Rattle.prelude.proofs.Checks.{choice-by, check-first}
 use Rattle.answers.specs.declared.Answer.{Answer}
 use Rattle.answers.specs.declared.Answer.the-variants as answer
@@ -34,30 +31,17 @@ use Rattle.order.specs.declared.Step.the-variants.{To, OutOfPlace}
 use Rattle.order.specs.Order.{goes, inPlace, placeAfter}
 use Rattle.order.specs.Laws.{before, ended, opening}
 use Rattle.order.proofs.Laws.{before-by-opening, ended-by-mrr}
-use Rattle.rising.specs.Rising.{rank, held}
 use Rattle.session.specs.declared.Standing.{Standing}
 use Rattle.session.specs.declared.Verdict.{Verdict}
-use Rattle.session.specs.declared.Verdict.the-variants.{Refused, Taken, Wanted}
-use Rattle.session.specs.Session.{mostOpen, mostResults, partOf, keyOf, standsRight}
-use Rattle.session.specs.Verdicts.{stands, verdictNumber, byItself}
+use Rattle.session.specs.declared.Verdict.the-variants.{Refused}
+use Rattle.session.specs.Session.{standsRight}
+use Rattle.session.specs.Verdicts.{verdictNumber, byItself}
 use Rattle.session.proofs.Laws.{stands-from}
-use Rattle.later_records.specs.Later.{at, withPcr, opens, closes, judgePir, judgePrr, judgeMrr, judgeSaid}
-use Rattle.later_records.specs.Later.{judgeLater}
+use Rattle.kind_effects.specs.Effects.{judgeSaid}
+use Rattle.kind_effects.proofs.Cases.{quiet, own-number}
+use Rattle.later_records.specs.Later.{at, judgeLater}
 use Rattle.later_records.specs.Results.{None, resultIn}
-use Rattle.later_records.specs.Laws.{ownChecks, LaterNumber}
-
--- ---- the ways to be accepted
-
--- what is taken as it is: it moves the place alone
-abbrev pub quiet : Record → Bool
-quiet (said.Far f) = true
-quiet said.Mir = true
-quiet (said.Bin b) = true
-quiet said.Unread = true
-quiet said.Mrr = false
-quiet (said.Pcr p) = false
-quiet (said.Pir p) = false
-quiet (said.Prr p) = false
+use Rattle.later_records.specs.Laws.{LaterNumber}
 
 module _ (P : Verdict → Type 0) (refused : (a : Answer) → byItself a ≡ true → P (Refused a)) where
   pub later-cases : (st : Standing) (parts rec : List ℕ)
@@ -81,36 +65,6 @@ module _ (P : Verdict → Type 0) (refused : (a : Answer) → byItself a ≡ tru
       by-step OutOfPlace reading e f = refused answer.OutOfPlace refl
       by-step (To q) Misfit e f = refused answer.BodyMisfit refl
       by-step (To q) (Fits r) e f = accepted named q r refl e f
-
-  -- a record in its place is taken as it is, or is one of the four kinds that the house looks at
-  pub said-cases : (st : Standing) (parts : List ℕ) (r : Record)
-      → (quiet r ≡ true → P (Taken (stands st)))
-      → ((p : Pcr) → r ≡ said.Pcr p → P (Taken (stands (withPcr st))))
-      → ((p : Pir) → r ≡ said.Pir p → held (partOf (p .head) (p .site)) parts ≡ false → st .opened < mostOpen
-      → P (Taken (opens st (rank (partOf (p .head) (p .site)) parts) (partOf (p .head) (p .site)))))
-      → ((p : Prr) → r ≡ said.Prr p → held (partOf (p .head) (p .site)) parts ≡ true → st .results < mostResults
-      → P (Wanted (closes st (rank (partOf (p .head) (p .site)) parts)) (keyOf (p .head) (p .site) (p .bin))))
-      → (r ≡ said.Mrr → (eqb (st .opened) 0 && st .pcr) ≡ true → P (Taken (stands st)))
-      → P (judgeSaid st parts r)
-  unfolding judgePir judgePrr judgeMrr
-  said-cases st parts (said.Pir p) taken pcr pir prr mrr =
-      let part = partOf (p .head) (p .site) in
-      choice-by P _ (not (held part parts)) _ (refused answer.PartOpen refl) (λ new.
-      choice-by P _ (ltb (st .opened) mostOpen) _ (refused answer.TooManyParts refl) (λ few.
-      pir p refl (not-true (held part parts) new) (ltb-true (st .opened) mostOpen few)))
-  said-cases st parts (said.Prr p) taken pcr pir prr mrr =
-      let part = partOf (p .head) (p .site) in
-      choice-by P _ (held part parts) _ (refused answer.PartNotOpen refl) (λ there.
-      choice-by P _ (ltb (st .results) mostResults) _ (refused answer.TooManyResults refl) (λ few.
-      prr p refl there (ltb-true (st .results) mostResults few)))
-  said-cases st parts said.Mrr taken pcr pir prr mrr =
-      choice-by P _ (eqb (st .opened) 0 && st .pcr) _ (refused answer.NotFinished refl) (λ done.
-      mrr refl done)
-  said-cases st parts (said.Pcr p) taken pcr pir prr mrr = pcr p refl
-  said-cases st parts (said.Far f) taken pcr pir prr mrr = taken refl
-  said-cases st parts said.Mir taken pcr pir prr mrr = taken refl
-  said-cases st parts (said.Bin b) taken pcr pir prr mrr = taken refl
-  said-cases st parts said.Unread taken pcr pir prr mrr = taken refl
 
 -- ---- where a record stands that does something
 
@@ -172,25 +126,6 @@ quiet-none (said.Pir p) h = refl
 quiet-none (said.Prr p) h = absurd (false≢true h)
 
 -- ---- the order of checks, as a list
-
-own-number : (st : Standing) (parts : List ℕ) (r : Record)
-    → verdictNumber (judgeSaid st parts r)
-    ≡ numberBy
-    (ownChecks (λ (head site : ℕ). held (partOf head site) parts) (st .opened) (st .results) (st .pcr) r)
-unfolding judgePir judgePrr judgeMrr
-own-number st parts (said.Pir p) =
-    check-first verdictNumber _ (not (held (partOf (p .head) (p .site)) parts)) _ 9 _ refl (λ a.
-    check-first verdictNumber _ (ltb (st .opened) mostOpen) _ 11 0 refl (λ b. refl))
-own-number st parts (said.Prr p) =
-    check-first verdictNumber _ (held (partOf (p .head) (p .site)) parts) _ 10 _ refl (λ a.
-    check-first verdictNumber _ (ltb (st .results) mostResults) _ 14 0 refl (λ b. refl))
-own-number st parts said.Mrr =
-    check-first verdictNumber _ (eqb (st .opened) 0 && st .pcr) _ 12 0 refl (λ a. refl)
-own-number st parts (said.Pcr p) = refl
-own-number st parts (said.Far f) = refl
-own-number st parts said.Mir = refl
-own-number st parts (said.Bin b) = refl
-own-number st parts said.Unread = refl
 
 -- a step moves the place alone, which no kind's own checks look at
 pub later-number : LaterNumber

@@ -1,29 +1,22 @@
 // The later records of a stream: document 01, "Order of checks", Later records.
 use answers::Answer;
 use bodies::Reading;
-use bodies::Record;
 use bodies::read_body;
 use frames::is_record;
+use kind_effects::judge_said;
 use kinds::Kind;
 use kinds::is_known;
 use kinds::kind_of;
 use order::Place;
 use order::Step;
 use order::next_place;
-use rising::holds;
-use rising::rank_of;
-use session::Change;
 use session::Standing;
 use session::Verdict;
 ghost use mathlib.Core.Path.{_≡_};
-ghost use Prim.Native.Nat.{_≤_, _<_, _+_, _*_};
+ghost use Prim.Native.Nat.{_≤_, _<_, _+_};
 ghost use lib.ListN.{take};
-ghost use Rattle.session.specs.Session.{LentParts, partOf, keyOf};
-ghost use Rattle.later_records.specs.Later.{at, withPcr, judgePir, judgePrr, judgeMrr, judgeSaid, judgeLater};
-
-const MOST_OPEN: usize = 32;
-
-const MOST_RESULTS: u32 = 4294967295;
+ghost use Rattle.session.specs.Session.{LentParts};
+ghost use Rattle.later_records.specs.Later.{at, judgeLater};
 
 fn placed(st: Standing, place: Place) -> Standing
     ensures { λ r. ⌜ r ≡ at st place ⌝ }
@@ -35,98 +28,6 @@ fn placed(st: Standing, place: Place) -> Standing
         opened: st.opened,
         pcr: st.pcr,
         results: st.results,
-    }
-}
-
-fn part_of(head: u8, site: u8) -> u64
-    ensures { λ r. ⌜ r ≡ partOf head site ⌝ }
-{
-    (head as u64) * 256 + (site as u64)
-}
-
-fn key_of(head: u8, site: u8, bin: u16) -> u32
-    ensures { λ r. ⌜ r ≡ keyOf head site bin ⌝ }
-{
-    ((head as u32) * 256 + (site as u32)) * 65536 + (bin as u32)
-}
-
-fn judge_pir(st: Standing, parts: &[u64], part: u64) -> Verdict
-    requires { ⌜ LentParts st (now parts) ⌝ }
-    ensures { λ r. ⌜ r ≡ judgePir st (take (st .opened) (now (parts .entry))) part ⌝ }
-{
-    let opened = st.opened;
-    let rank = rank_of(parts, opened, part);
-    if holds(parts, opened, rank, part) {
-        return Verdict::Refused(Answer::PartOpen);
-    }
-    if MOST_OPEN <= opened {
-        return Verdict::Refused(Answer::TooManyParts);
-    }
-    let mut next = st;
-    next.opened = opened + 1;
-    Verdict::Taken(Change::Opens(next, rank, part))
-}
-
-fn judge_prr(st: Standing, parts: &[u64], part: u64, key: u32) -> Verdict
-    requires { ⌜ LentParts st (now parts) ⌝ }
-    ensures { λ r. ⌜ r ≡ judgePrr st (take (st .opened) (now (parts .entry))) part key ⌝ }
-{
-    let opened = st.opened;
-    let rank = rank_of(parts, opened, part);
-    if holds(parts, opened, rank, part) {
-        let results = st.results;
-        if MOST_RESULTS <= results {
-            return Verdict::Refused(Answer::TooManyResults);
-        }
-        let mut next = st;
-        next.opened = opened - 1;
-        next.results = results + 1;
-        return Verdict::Wanted(Change::Closes(next, rank), key);
-    }
-    Verdict::Refused(Answer::PartNotOpen)
-}
-
-fn judge_mrr(st: Standing) -> Verdict
-    ensures { λ r. ⌜ r ≡ judgeMrr st ⌝ }
-{
-    if st.opened != 0 {
-        return Verdict::Refused(Answer::NotFinished);
-    }
-    if st.pcr {
-        Verdict::Taken(Change::Stands(st))
-    } else {
-        Verdict::Refused(Answer::NotFinished)
-    }
-}
-
-fn with_pcr(st: Standing) -> Standing
-    ensures { λ r. ⌜ r ≡ withPcr st ⌝ }
-{
-    let mut next = st;
-    next.pcr = true;
-    next
-}
-
-// What a record that is in its place and fits its kind does.
-fn judge_said(st: Standing, parts: &[u64], said: Record) -> Verdict
-    requires { ⌜ LentParts st (now parts) ⌝ }
-    ensures { λ r. ⌜ r ≡ judgeSaid st (take (st .opened) (now (parts .entry))) said ⌝ }
-{
-    let same = Change::Stands(st);
-    match said {
-        Record::Pir(p) => judge_pir(st, parts, part_of(p.head, p.site)),
-        Record::Prr(p) => judge_prr(
-            st,
-            parts,
-            part_of(p.head, p.site),
-            key_of(p.head, p.site, p.bin),
-        ),
-        Record::Mrr => judge_mrr(st),
-        Record::Pcr(_) => Verdict::Taken(Change::Stands(with_pcr(st))),
-        Record::Far(_) => Verdict::Taken(same),
-        Record::Mir => Verdict::Taken(same),
-        Record::Bin(_) => Verdict::Taken(same),
-        Record::Unread => Verdict::Taken(same),
     }
 }
 

@@ -12,7 +12,8 @@ use Rattle.session.specs.Session as session
 use Rattle.session.specs.Session.{partsRight}
 use Rattle.settling.specs.Settling.{changed}
 use Rattle.first_record.specs.First.{judgeIn, judgeFirst}
-use Rattle.later_records.specs.Later.{judgePir, judgePrr, judgeLater}
+use Rattle.kind_effects.specs.Effects.{judgePir, judgePrr}
+use Rattle.later_records.specs.Later.{judgeLater}
 use Rattle.judging.specs.Judge.{judge}
 use Rattle.frames.specs.Frames.{isRecord}
 use Rattle.kinds.specs.Kinds.{named, hasType, beyondTable, kindOf}

@@ -26,8 +26,10 @@ use Rattle.session.proofs.Laws.{past-start}
 use Rattle.settling.specs.Settling.{changed}
 use Rattle.first_record.specs.First.{orderIn}
 use Rattle.first_record.proofs.Checks.{first-cases}
-use Rattle.later_records.specs.Later.{at, withPcr, withPart, withResult}
-use Rattle.later_records.proofs.Checks.{later-cases, said-cases}
+use Rattle.kind_effects.specs.Effects.{withPcr, withPart, withResult}
+use Rattle.kind_effects.proofs.Cases.{said-cases}
+use Rattle.later_records.specs.Later.{at}
+use Rattle.later_records.proofs.Checks.{later-cases}
 use Rattle.judging.specs.Judge.{verdictOn}
 use Rattle.judging.proofs.Laws.{judged-first, judged-later}
 use Rattle.tallying.specs.Told.{isMrr}

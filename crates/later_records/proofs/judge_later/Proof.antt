@@ -13,7 +13,7 @@ use Rattle.frames.specs.Frames.{body, isRecord}
 use Rattle.bodies.specs.Bodies.{readBody}
 use Rattle.session.specs.declared.Standing.{Standing}
 use Rattle.session.specs.Session.{LentParts}
-use Rattle.later_records.specs.Later.{judgeSaid}
+use Rattle.kind_effects.specs.Effects.{judgeSaid}
 use Rattle.later_records.proofs.Laws.{lent-at, later-frame, later-unknown, later-out, later-misfit, later-said}
 use Rattle.kinds.specs.Kinds.{known}
 use Rattle.order.specs.declared.Step.the-variants.{To}

@@ -1,4 +1,4 @@
--- `later_records::judge_said` meets its contract: each arm is one case of `judgeSaid`.
+-- `kind_effects::judge_said` meets its contract: each arm is one case of `judgeSaid`.
 -- Assumes nothing.
 use mathlib.Core.Path.{ap, _∙_}
 use Prim.Native.Nat.{ℕ}
@@ -8,9 +8,9 @@ use borrow.Author.Needs.{needs}
 use Rattle.session.specs.declared.Standing.{Standing}
 use Rattle.session.specs.declared.Verdict.the-variants.{Taken}
 use Rattle.session.specs.Verdicts.{stands}
-use Rattle.later_records.specs.Later.{judgePir, judgePrr}
-use Rattle.later_records.proofs.judge_said.Statement.{statement}
-use Rattle.later_records.proofs.judge_said.Tie as tie
+use Rattle.kind_effects.specs.Effects.{judgePir, judgePrr}
+use Rattle.kind_effects.proofs.judge_said.Statement.{statement}
+use Rattle.kind_effects.proofs.judge_said.Tie as tie
 
 returns : tie.Need-returns
 returns c =

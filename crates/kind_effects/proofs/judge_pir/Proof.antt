@@ -1,13 +1,13 @@
--- `later_records::judge_pir` meets its contract: each return is one case of `judgePir`.
+-- `kind_effects::judge_pir` meets its contract: each return is one case of `judgePir`.
 -- Assumes nothing.
 use mathlib.Core.Path.{ap, sym, _∙_}
 use Prim.Native.Nat.{ℕ}
 use borrow.Author.Needs.{needs}
-use Rattle.later_records.specs.Later.{opens}
-use Rattle.later_records.proofs.Laws.{pir-open, pir-many, pir-opens}
+use Rattle.kind_effects.specs.Effects.{opens}
+use Rattle.kind_effects.proofs.Laws.{pir-open, pir-many, pir-opens}
 use Rattle.session.specs.declared.Verdict.the-variants.{Taken}
-use Rattle.later_records.proofs.judge_pir.Statement.{statement}
-use Rattle.later_records.proofs.judge_pir.Tie as tie
+use Rattle.kind_effects.proofs.judge_pir.Statement.{statement}
+use Rattle.kind_effects.proofs.judge_pir.Tie as tie
 
 returns : tie.Need-returns
 returns c = sym (pir-open _ _ _ (sym (c .before .holds .ensures) ∙ c .if1 .taken))

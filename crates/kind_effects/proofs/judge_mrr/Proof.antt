@@ -1,9 +1,9 @@
--- `later_records::judge_mrr` meets its contract: each return is one case of `judgeMrr`.
+-- `kind_effects::judge_mrr` meets its contract: each return is one case of `judgeMrr`.
 -- Assumes nothing.
 use mathlib.Core.Path.{sym}
-use Rattle.later_records.proofs.Laws.{mrr-open, mrr-ends, mrr-no-pcr}
-use Rattle.later_records.proofs.judge_mrr.Statement.{statement}
-use Rattle.later_records.proofs.judge_mrr.Tie as tie
+use Rattle.kind_effects.proofs.Laws.{mrr-open, mrr-ends, mrr-no-pcr}
+use Rattle.kind_effects.proofs.judge_mrr.Statement.{statement}
+use Rattle.kind_effects.proofs.judge_mrr.Tie as tie
 
 returns : tie.Need-returns
 returns c = sym (mrr-open _ (c .if1 .taken))

@@ -1,4 +1,4 @@
--- `later_records::judge_prr` meets its contract: each return is one case of `judgePrr`.
+-- `kind_effects::judge_prr` meets its contract: each return is one case of `judgePrr`.
 -- Assumes nothing.
 use mathlib.Core.Bool.{true}
 use mathlib.Core.Path.{_≡_, ap, sym, _∙_}
@@ -7,11 +7,11 @@ use lib.ListN.{take}
 use denote.Ref.{now}
 use borrow.Author.Needs.{needs}
 use Rattle.rising.specs.Rising.{held}
-use Rattle.later_records.proofs.Laws.{held-opened, prr-none, prr-many, prr-wants}
-use Rattle.later_records.specs.Later.{closes}
+use Rattle.kind_effects.proofs.Laws.{held-opened, prr-none, prr-many, prr-wants}
+use Rattle.kind_effects.specs.Effects.{closes}
 use Rattle.session.specs.declared.Verdict.the-variants.{Wanted}
-use Rattle.later_records.proofs.judge_prr.Statement.{statement}
-use Rattle.later_records.proofs.judge_prr.Tie as tie
+use Rattle.kind_effects.proofs.judge_prr.Statement.{statement}
+use Rattle.kind_effects.proofs.judge_prr.Tie as tie
 
 there : (c : tie.Then1)
     → let a = c .before .before .before .before .args in
