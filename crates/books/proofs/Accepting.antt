@@ -16,7 +16,8 @@ use Rattle.house.specs.House.{fresh}
 use Rattle.house.specs.History.{Call, Open, Deliver, Report, Close, Figured, Said, said, reply, after, reached, history}
 use Rattle.house.specs.History.{names, Sent, AllSent}
 use Rattle.house.proofs.Counting.{holds}
-use Rattle.books.specs.Book.{isDone, bookOf}
+use Rattle.house.specs.Tally.{isDone}
+use Rattle.books.specs.Book.{bookOf}
 use Rattle.books.specs.Told.{numberTold, recordChecks, roomTo}
 use Rattle.books.specs.Meaning.{takenBy, taken, acceptedFrom, accepted}
 use Rattle.books.proofs.Told.{deliver-told}

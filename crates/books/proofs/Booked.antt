@@ -38,7 +38,8 @@ use Rattle.house.proofs.Refusing.{refused-keeps, own-number, open-number, deliv
 use Rattle.house.proofs.Counting.{fresh-at, holds}
 use Rattle.tallies.specs.Results.{PartResult}
 use Rattle.tallies.specs.Packed.{packed}
-use Rattle.books.specs.Book.{Book, book, nothing, openedWith, saidIn, resultsIn, noted, doneBy, isDone}
+use Rattle.house.specs.Tally.{isDone}
+use Rattle.books.specs.Book.{Book, book, nothing, openedWith, saidIn, resultsIn, noted, doneBy}
 use Rattle.books.specs.Book.{heard, heardFrom, bookOf}
 use Rattle.books.proofs.Following.{Says, says-anew, Booked, booked}
 

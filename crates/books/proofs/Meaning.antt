@@ -22,7 +22,8 @@ use Rattle.session.specs.Session.{isStart}
 use Rattle.house.specs.History.{Call, Open, Deliver, Report, Close, Figured, Said, names}
 use Rattle.tallies.specs.Results.{PartResult}
 use Rattle.books.specs.Book.{Part, isOpen, Book, book, nothing, kindIn, partsAfter, resultsIn, isPcr}
-use Rattle.books.specs.Book.{noted, doneBy, isDone, heard, heardFrom, bookOf}
+use Rattle.house.specs.Tally.{isDone}
+use Rattle.books.specs.Book.{noted, doneBy, heard, heardFrom, bookOf}
 use Rattle.books.specs.Meaning.{takenBy, taken, acceptedFrom, accepted, kindsOf, toldOrder, readings, about}
 use Rattle.books.specs.Meaning.{isPir, lastOpens, anyPcr, resultsOf, PartsMean, PcrMeans, ResultsMean, PlaceMeans}
 use Rattle.books.proofs.Parts.{open-without}

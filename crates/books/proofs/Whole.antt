@@ -17,7 +17,8 @@ use Rattle.house.proofs.Reporting.{open-within, told-rises}
 use Rattle.house.proofs.Keeping.{reached-sound}
 use Rattle.house.proofs.Counting.{keys-long, report-told, reached-shaped}
 use Rattle.tallies.specs.Results.{tallyOf}
-use Rattle.books.specs.Book.{Book, nothing, isDone, noted, heard, heardFrom, bookOf}
+use Rattle.house.specs.Tally.{isDone}
+use Rattle.books.specs.Book.{Book, nothing, noted, heard, heardFrom, bookOf}
 use Rattle.books.specs.Told.{numberTold, ReportWhole, AloneListed}
 use Rattle.books.proofs.Booked.{book-agrees}
 use Rattle.books.proofs.Told.{tally-rows, open-told}

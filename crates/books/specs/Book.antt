@@ -16,7 +16,6 @@ use mathlib.Core.Bool.{Bool, true, false, cond, _&&_, _||_}
 use mathlib.Core.List.{List, [], _∷_, _++_}
 use lib.Dec.{eqb}
 use lib.ListN.{length}
-use Rattle.answers.specs.Numbers.{numberOf}
 use Rattle.numbers.specs.declared.Order.{Order}
 use Rattle.numbers.specs.declared.Order.the-variants.{HighFirst}
 use Rattle.kinds.specs.declared.Kind.{Kind}
@@ -33,7 +32,8 @@ use Rattle.session.specs.Session.{isStart}
 use Rattle.first_record.specs.First.{orderIn}
 use Rattle.rows.specs.Rows.{slotCount}
 use Rattle.house.specs.House.{rowCount}
-use Rattle.house.specs.History.{Call, Open, Deliver, Report, Close, Figured, Said, answerOf, names}
+use Rattle.house.specs.History.{Call, Open, Deliver, Report, Close, Figured, Said, names}
+use Rattle.house.specs.Tally.{isDone}
 use Rattle.tallies.specs.Results.{PartResult, tallyOf}
 
 -- ---- open parts
@@ -153,9 +153,6 @@ doneBy (Deliver slot rec) b = noted rec b
 doneBy (Report slot long) b = b
 doneBy (Close slot) b = nothing
 doneBy Figured b = b
-
-abbrev pub isDone : Said → Bool
-isDone e = eqb (numberOf (answerOf (e .reply))) 0
 
 -- a refusal tells nothing, nor does a call that names another slot
 abbrev pub heard : ℕ → Said → Book → Book

@@ -35,7 +35,8 @@ use Rattle.first_record.specs.Laws.{FirstRight}
 use Rattle.house.specs.House.{fresh}
 use Rattle.house.specs.History.{Call, Open, Deliver, Report, Close, Figured, Said, names, history, AllSent}
 use Rattle.tallies.specs.Results.{PartResult}
-use Rattle.books.specs.Book.{isOpen, kindIn, resultsIn, isPcr, isDone, bookOf}
+use Rattle.house.specs.Tally.{isDone}
+use Rattle.books.specs.Book.{isOpen, kindIn, resultsIn, isPcr, bookOf}
 use Rattle.books.specs.Told.{numberTold}
 
 -- ---- the accepted records

@@ -15,10 +15,10 @@ use Rattle.prelude.specs.Choice.{_unless_then_}
 use Rattle.answers.specs.Numbers.{numberOf}
 use Rattle.numbers.specs.declared.Order.{Order}
 use Rattle.kinds.specs.declared.Kind.{Kind}
-use Rattle.kinds.specs.declared.Kind.the-variants.{Far, Atr, Mir, Mrr, Pcr, Hbr, Sbr, Rdr, Sdr, Pir, Prr, Remaining}
-use Rattle.kinds.specs.declared.Kind.the-variants.{Custom, Unknown}
+use Rattle.kinds.specs.declared.Kind.the-variants.{Mrr}
 use Rattle.kinds.specs.Kinds.{kindOf}
 use Rattle.frames.specs.Frames.{header, recLen, recTyp, recSub}
+use Rattle.order.specs.Spelled.{is}
 use Rattle.first_record.specs.First.{orderIn}
 use Rattle.house.specs.declared.Row.{Row}
 use Rattle.house.specs.House.{rowCount, fresh}
@@ -93,20 +93,7 @@ rowsIn (Read f) = []
 -- ---- the text
 
 abbrev pub isMrr : Kind → Bool
-isMrr Far = false
-isMrr Atr = false
-isMrr Mir = false
-isMrr Mrr = true
-isMrr Pcr = false
-isMrr Hbr = false
-isMrr Sbr = false
-isMrr Rdr = false
-isMrr Sdr = false
-isMrr Pir = false
-isMrr Prr = false
-isMrr (Remaining k) = false
-isMrr Custom = false
-isMrr Unknown = false
+isMrr k = is Mrr k
 
 abbrev pub mrrLast : List (List ℕ) → Bool
 mrrLast [] = false
