@@ -14,8 +14,15 @@
 
 static uint8_t buffer[READ_SIZE + LONGEST];
 
+// 12 names the smallest of the open parts.
 static _Noreturn void refuse(int number) {
-    printf("refused %d at record %llu\n", number, (unsigned long long)lot.record + 1);
+    printf("refused %d at record %llu", number, (unsigned long long)lot.record + 1);
+    if (number == 12) {
+        unsigned part = 0;
+        while (!lot.open[part]) part++;
+        printf(", head %u site %u", part >> 8, part & 255);
+    }
+    putchar('\n');
     exit(0);
 }
 

@@ -131,7 +131,8 @@ static int deliver_later(struct house *h, const struct held *held, uint32_t slot
     int number = 0;
     if (kind == PIR) number = open_part(s, (uint64_t)body[0] << 8 | body[1]);
     else if (kind == PRR) number = count_part(h, held, slot, body);
-    else if (kind == MRR && (s->opened || !s->pcr)) number = 12;
+    else if (kind == MRR && s->opened) number = 12;
+    else if (kind == MRR && !s->pcr) number = 20;
     else if (kind == PCR) s->pcr = true;
     if (!number) s->place = place;
     return number;

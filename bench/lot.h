@@ -68,7 +68,8 @@ static inline int judge(const uint8_t *rec, size_t length, bool high) {
     int number = 0;
     if (kind == PIR) number = open_part(body);
     else if (kind == PRR) number = count_part(body, high);
-    else if (kind == MRR && (lot.parts || !lot.pcr)) number = 12;
+    else if (kind == MRR && lot.parts) number = 12;
+    else if (kind == MRR && !lot.pcr) number = 20;
     else if (kind == PCR) lot.pcr = true;
     if (!number) lot.place = place;
     return number;

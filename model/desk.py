@@ -1,9 +1,9 @@
 #!/usr/bin/env python3
-"""The desk once more, written from document 01 alone and with other means: sets and dictionaries, no proofs.
+"""The desk once more, written from documents 01 and 02 alone and with other means: sets and dictionaries, no proofs.
 
     python3 model/desk.py < crates/desk/stdin | diff - crates/desk/stdout
 
-It shares no code with the crates. Where it and the desk differ, one of them misreads document 01.
+It shares no code with the crates. Where it and the desk differ, one of them misreads a document.
 """
 import re
 import sys
@@ -127,8 +127,10 @@ class Session:
             answer = self.opens((body[0], body[1]))
         elif kind == "PRR":
             answer = self.closes((body[0], body[1]), int.from_bytes(body[5:7], self.order), spare)
-        elif kind == "MRR" and (self.parts or not self.pcr):
-            answer = 12
+        elif kind == "MRR" and self.parts:
+            answer = "12 %d %d" % min(self.parts)
+        elif kind == "MRR" and not self.pcr:
+            answer = 20
         if answer == 0:
             self.place, self.pcr = place, self.pcr or kind == "PCR"
         return answer
@@ -218,7 +220,7 @@ ORDERS = {1: "big", 2: "little"}
 HELP = """\
 # fresh                        0
 # open SLOT FLOOR              N
-# deliver SLOT HEX             N
+# deliver SLOT HEX             N, or: 12 HEAD SITE
 # report SLOT LENGTH           N, or: 0 COUNT H/S/B=C H/S/B=C ..
 # close SLOT                   N
 # figures                      N, or: 0 FREE PROMISED

@@ -1,10 +1,10 @@
 #!/usr/bin/env python3
-"""The tally program once more, written from document 01 alone: the tables below are its tables, read as text.
+"""The tally program once more, written from documents 01 and 02 alone: the tables below are document 01's, read as text.
 
     python3 model/tally.py < FILE
 
-It shares no code with the crates nor with model/desk.py. Where it and the program differ, one of them misreads
-document 01. `bench/compare` runs both on many streams.
+It shares no code with the crates nor with model/desk.py. Where it and the program differ, one of them misreads a
+document. `bench/compare` runs both on many streams.
 """
 import sys
 
@@ -152,13 +152,13 @@ class Lot:
         return 0
 
     def take(self, kind, values):
-        """Refusals 9 to 14, and what an accepted record changes."""
+        """Refusals 9 to 14 and 20, and what an accepted record changes."""
         if kind == "PIR":
             return self.open_part((values["head"], values["site"]))
         if kind == "PRR":
             return self.count_part((values["head"], values["site"]), values["hard"])
         if kind == "MRR":
-            return 12 if self.parts or not self.pcr else 0
+            return 12 if self.parts else 0 if self.pcr else 20
         if kind == "PCR":
             self.pcr = True
         return 0
@@ -185,6 +185,10 @@ class Lot:
         self.parts.remove(part)
         return 0
 
+    def named(self, number):
+        """What a refusal says beside its number and its record: 12 names the first of the open parts (#101)."""
+        return ", head %d site %d" % sorted(self.parts)[0] if number == 12 else ""
+
     def lines(self):
         rows = sorted(self.counts.items())
         return "".join(f"HBR:{head}|{site}|{hard}|{count}\n" for (head, site, hard), count in rows)
@@ -208,7 +212,7 @@ def tally(stream):
             return f"too long at record {record}\n"
         number = 3 if end > len(stream) else lot.refusal(head, stream[at + 4:end])
         if number:
-            return f"refused {number} at record {record}\n"
+            return f"refused {number} at record {record}{lot.named(number)}\n"
         at = end
     return lot.lines() if lot.stage == ENDED else f"unfinished after record {record}\n"
 

@@ -9,6 +9,7 @@ NAME.tally.
     final     final test, 2 heads of 2 sites, high byte first (CPU_TYPE 1); failed parts tested once more
     damaged   final, with one bit of a part's hardware bin turned over
     cut       wafer, its end lost on the way
+    open      final, without the results of its last two parts
 
 What a lot's tally is comes from the maps below, from which the parts are made: no stream is read here. Fields are in
 the order of the STDF V4 specification; an optional end is left off where a tester leaves it off.
@@ -204,6 +205,15 @@ def cut():
     return lot.bytes()[:-len(lot.records[-1]) - 3], "refused 3 at record %d\n" % (len(lot.records) - 1)
 
 
+def left_open():
+    """The last two parts have no PRR, so that both are open at the MRR: it is refused, and the smaller is named."""
+    lot = final_lot()
+    gone = [i for i, rec in enumerate(lot.records) if rec[2:4] == bytes((5, 20))][-2:]
+    part = min(tuple(lot.records[i][4:6]) for i in gone)
+    lot.records = [rec for i, rec in enumerate(lot.records) if i not in gone]
+    return lot.bytes(), "refused 12 at record %d, head %d site %d\n" % (len(lot.records), *part)
+
+
 def write(name, stream, said):
     with open(os.path.join(HERE, name + ".stdf"), "wb") as out:
         out.write(stream)
@@ -216,3 +226,4 @@ if __name__ == "__main__":
         write(name, lot.bytes(), lot.text())
     write("damaged", *damaged())
     write("cut", *cut())
+    write("open", *left_open())

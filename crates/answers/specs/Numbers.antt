@@ -1,6 +1,10 @@
--- The number of each answer. Document 01, "Refusal numbers", row for row.
+-- The number of each answer, and the values that it carries. Document 01, "Refusal numbers", row for row.
+--
+--   sayingOf              both
+--   numberOf, valuesOf    either
+--   OfBytes               that values are bytes, as the code's are
 -- Assumes nothing.
-use Prim.Native.Nat.{ℕ}
+use Prim.Native.Nat.{ℕ, _<_}
 use Rattle.answers.specs.declared.Answer.{Answer}
 use Rattle.answers.specs.declared.Answer.the-variants.{
   Done,
@@ -16,7 +20,7 @@ use Rattle.answers.specs.declared.Answer.the-variants.{
   PartOpen,
   PartNotOpen,
   TooManyParts,
-  NotFinished,
+  StillOpen,
   NoRoom,
   TooManyResults,
   NotSound,
@@ -24,27 +28,42 @@ use Rattle.answers.specs.declared.Answer.the-variants.{
   OutputTooShort,
   NotACountLine,
   NameNotText,
+  NoPcr,
 }
+use Rattle.answers.specs.declared.Values.{Values}
+use Rattle.answers.specs.declared.Values.the-variants.{Nothing, Part}
+use Rattle.answers.specs.declared.Saying.{Saying}
+
+abbrev pub sayingOf : Answer → Saying
+sayingOf Done = (0, Nothing)
+sayingOf NoSuchSlot = (1, Nothing)
+sayingOf SlotTaken = (2, Nothing)  -- opened twice
+sayingOf SlotClosed = (2, Nothing)  -- any other call, where nothing is open
+sayingOf NotOneRecord = (3, Nothing)
+sayingOf UnknownOrder = (4, Nothing)
+sayingOf WrongVersion = (5, Nothing)
+sayingOf UnknownKind = (6, Nothing)
+sayingOf BodyMisfit = (7, Nothing)
+sayingOf OutOfPlace = (8, Nothing)
+sayingOf PartOpen = (9, Nothing)
+sayingOf PartNotOpen = (10, Nothing)
+sayingOf TooManyParts = (11, Nothing)
+sayingOf (StillOpen head site) = (12, Part head site)  -- #101: MRR while a part is open, with the smallest one
+sayingOf NoRoom = (13, Nothing)
+sayingOf TooManyResults = (14, Nothing)
+sayingOf NotSound = (15, Nothing)
+sayingOf FloorTooHigh = (16, Nothing)
+sayingOf OutputTooShort = (17, Nothing)
+sayingOf NotACountLine = (18, Nothing)
+sayingOf NameNotText = (19, Nothing)
+sayingOf NoPcr = (20, Nothing)  -- #101: MRR while no part is open and no PCR was accepted
 
 abbrev pub numberOf : Answer → ℕ
-numberOf Done = 0
-numberOf NoSuchSlot = 1
-numberOf SlotTaken = 2  -- opened twice
-numberOf SlotClosed = 2  -- any other call, where nothing is open
-numberOf NotOneRecord = 3
-numberOf UnknownOrder = 4
-numberOf WrongVersion = 5
-numberOf UnknownKind = 6
-numberOf BodyMisfit = 7
-numberOf OutOfPlace = 8
-numberOf PartOpen = 9
-numberOf PartNotOpen = 10
-numberOf TooManyParts = 11
-numberOf NotFinished = 12
-numberOf NoRoom = 13
-numberOf TooManyResults = 14
-numberOf NotSound = 15
-numberOf FloorTooHigh = 16
-numberOf OutputTooShort = 17
-numberOf NotACountLine = 18
-numberOf NameNotText = 19
+numberOf a = sayingOf a .0
+
+abbrev pub valuesOf : Answer → Values
+valuesOf a = sayingOf a .1
+
+abbrev pub OfBytes : Values → Type 0
+OfBytes Nothing = Unit
+OfBytes (Part head site) = (head < 256) × (site < 256)

@@ -16,8 +16,8 @@ use Rattle.rows.specs.Counts.{Count, plus, rowsBy}
 use Rattle.session.specs.declared.Session.{Session}
 use Rattle.session.specs.declared.Verdict.{Verdict}
 use Rattle.session.specs.declared.Verdict.the-variants.{Refused, Taken, Wanted}
-use Rattle.session.specs.Session.{begun}
-use Rattle.session.specs.Verdicts.{byItself}
+use Rattle.session.specs.Session.{partsOf, begun}
+use Rattle.session.specs.Verdicts.{ByItself}
 use Rattle.settling.specs.Settling.{changed}
 use Rattle.judging.specs.Judge.{verdictOn}
 use Rattle.judging.proofs.Laws.{judged-refusal}
@@ -108,12 +108,13 @@ module _ (slot : ℕ) (b : Book) (h : House) (p : Agree slot b h) where
 
   -- any verdict that is
   agree-verdict : (rec : List ℕ) (v : Verdict) (o : Answered) → slotAt h slot .taken ≡ true → Own h slot v o
-      → ((a : Answer) → v ≡ Refused a → byItself a ≡ true) → Booked b (slotAt h slot .session) rec v
+      → ((a : Answer) → v ≡ Refused a → ByItself (partsOf (slotAt h slot .session)) a)
+      → Booked b (slotAt h slot .session) rec v
       → numberOf (o .answer) ≡ 0 → Agree slot (noted rec b) (o .house)
   unfolding packed
   agree-verdict rec (Refused a) o t own refusal kept done =
       let zero-number : numberOf a ≡ 0 = ap numberOf (sym (own .answer)) ∙ done in
-      absurd (false≢true (sym (own-number a (refusal a refl)) ∙ ap (λ (n : ℕ). eqb n 0) zero-number))
+      absurd (false≢true (sym (own-number a (refusal a refl .0)) ∙ ap (λ (n : ℕ). eqb n 0) zero-number))
   agree-verdict rec (Taken change) o t own refusal kept done =
       agree-by rec (o .house) (changed (slotAt h slot .session) change) (rowsAt h slot) t (own .stands) (kept .0)
       (own .rows)

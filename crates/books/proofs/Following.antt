@@ -60,7 +60,7 @@ use Rattle.tallies.specs.Packed.{keyed, RightResult, AllRight}
 use Rattle.books.specs.Book.{Part, isOpen, Book, book, kindIn, saidIn, asResult, resultsIn}
 use Rattle.books.specs.Book.{partsAfter, isPcr, noted}
 use Rattle.books.specs.Told.{recordChecks}
-use Rattle.books.proofs.Parts.{open-without, Distinct, length-without, distinct-without}
+use Rattle.books.proofs.Parts.{open-without, Distinct, length-without, distinct-without, Low, low-without}
 
 -- ---- what a book says of a session
 
@@ -73,6 +73,7 @@ pub record Says (b : Book) (s : Session) : Type 0 where
   pub opened : length (b .parts) ≡ s .standing .opened
   pub parts : (head site : ℕ) → site < 256 → isOpen (b .parts) head site ≡ held (partOf head site) (partsOf s)
   pub distinct : Distinct (b .parts)
+  pub low : Low (b .parts)
   pub pcr : b .pcr ≡ s .standing .pcr
   pub results : length (b .results) ≡ s .standing .results
   pub right : AllRight (b .results)
@@ -88,6 +89,7 @@ says-anew taken floor cells =
       opened = refl;
       parts = λ head site low. refl;
       distinct = tt;
+      low = tt;
       pcr = refl;
       results = refl;
       right = tt;
@@ -264,6 +266,7 @@ module _ (b : Book) (s : Session) (p : Says b s) where
           opened = p .opened;
           parts = p .parts;
           distinct = p .distinct;
+          low = p .low;
           pcr = p .pcr;
           results = p .results;
           right = p .right;
@@ -281,6 +284,7 @@ module _ (b : Book) (s : Session) (p : Says b s) where
         opened = p .opened;
         parts = p .parts;
         distinct = p .distinct;
+        low = p .low;
         pcr = p .pcr;
         results = p .results;
         right = p .right;
@@ -295,6 +299,7 @@ module _ (b : Book) (s : Session) (p : Says b s) where
         opened = p .opened;
         parts = p .parts;
         distinct = p .distinct;
+        low = p .low;
         pcr = refl;
         results = p .results;
         right = p .right;
@@ -317,6 +322,7 @@ module _ (b : Book) (s : Session) (p : Says b s) where
               ∙ sym (held-insert (partOf head site) (partsOf s) (rank number (partsOf s)) number)
               ∙ ap (held (partOf head site)) (sym (parts-opened s long e number few));
           distinct = (p .parts (x .head) (x .site) small ∙ new, p .distinct);
+          low = (small, p .low);
           pcr = p .pcr;
           results = p .results;
           right = p .right;
@@ -340,6 +346,7 @@ module _ (b : Book) (s : Session) (p : Says b s) where
               ∙ sym (held-remove (partOf head site) number (partsOf s) (sound-parts-told s e .rises) there)
               ∙ ap (held (partOf head site)) (sym (parts-closed s long e number there));
           distinct = distinct-without (x .head) (x .site) (b .parts) (p .distinct);
+          low = low-without (x .head) (x .site) (b .parts) (p .low);
           pcr = p .pcr;
           results = omega (arith, p .results);
           right = (result-right x told, p .right);
@@ -349,7 +356,7 @@ module _ (b : Book) (s : Session) (p : Says b s) where
   module _ (rec : List ℕ) (bytes : Bytes rec) (long : length (s .parts) ≡ mostOpen) (e : sound s ≡ true) where
     booked-first : isStart (b .place) ≡ true → Booked b s rec (judgeFirst st rec)
     booked-first start =
-        first-cases First (λ a own far. tt) st rec (λ order is far. says-first rec order start (far refl) is)
+        first-cases (partsOf s) First (λ a own far. tt) st rec (λ order is far. says-first rec order start (far refl) is)
         (λ zero. first-accepted st rec zero .far)
       where
         First : Verdict → Type 0
@@ -357,7 +364,7 @@ module _ (b : Book) (s : Session) (p : Says b s) where
 
     booked-said : (q : Place) (r : Record) → Right r → BookedAs s (onward b q r) r (judgeSaid (at st q) (partsOf s) r)
     booked-said q r told =
-        said-cases (BookedAs s (onward b q r) r) (λ a own. tt) (at st q) (partsOf s) r
+        said-cases (partsOf s) (BookedAs s (onward b q r) r) (λ a own. tt) (at st q) r
         (λ h. (says-on q r (quieted r h), quieted r h .results))
         (λ x is. by (Taken (stands (withPcr (at st q)))) (said.Pcr x) is (says-pcr q x, refl))
         (λ x is new few.
@@ -380,7 +387,7 @@ module _ (b : Book) (s : Session) (p : Says b s) where
 
     booked-later : isStart (b .place) ≡ false → Booked b s rec (judgeLater st (partsOf s) rec)
     booked-later further =
-        later-cases (Booked b s rec) (λ a own. tt) st (partsOf s) rec (λ k q r named to fits.
+        later-cases (partsOf s) (Booked b s rec) (λ a own. tt) st rec (λ k q r named to fits.
         let to-next : goes (b .place) k ≡ To q = ap (λ (x : Place). goes x k) (p .place) ∙ to in
         let reads : readBody (b .order) k (body rec) ≡ Fits r =
         ap (λ (o : Order). readBody o k (body rec)) (p .order) ∙ fits in

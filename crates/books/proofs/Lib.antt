@@ -6,5 +6,6 @@ pub mod Rooms
 pub mod Meaning
 pub mod Accepting
 pub mod Spelling
+pub mod Smallest
 pub mod Right
 pub mod Whole

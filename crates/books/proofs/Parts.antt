@@ -1,15 +1,17 @@
--- Laws of open parts, as a book lists them: what is open after one closes, and how many there are.
+-- Laws of open parts, as a book lists them: what is open after one closes, how many there are, and which is the smallest.
 -- Assumes nothing.
 use mathlib.Core.Path.{_≡_, refl, ap, sym, _∙_}
-use mathlib.Core.Bool.{Bool, true, false, cond, not, _&&_, _||_, false≢true, true≢false}
+use mathlib.Core.Bool.{Bool, true, false, cond, not, _&&_, _||_, false≢true, true≢false, or-true}
 use mathlib.Core.List.{List, [], _∷_}
-use Prim.Native.Nat.{ℕ, _+_}
+use Prim.Native.Nat.{ℕ, _+_, _≤_, _<_}
 use native.Mathlib.Omega.{arith}
-use borrow.Author.Tests.{eqb-true}
-use lib.Dec.{eqb}
+use borrow.Author.Tests.{eq-eqb, eqb-true, le-ltb, ltb-true, ltb-false}
+use lib.Dec.{eqb, ltb}
 use lib.ListN.{length}
 use Rattle.prelude.proofs.Both.{both-left, both-right}
-use Rattle.books.specs.Book.{Part, isAt, isOpen, without}
+use Rattle.session.specs.Session.{partOf}
+use Rattle.session.proofs.Keys.{part-rises}
+use Rattle.books.specs.Book.{Part, isAt, isOpen, without, precedes, leastOf}
 
 -- ---- a part that closes
 
@@ -110,3 +112,80 @@ distinct-without head site (p ∷ ps) d = go (isAt head site p) (distinct-withou
         → Distinct (cond a (without head site ps) (p ∷ without head site ps))
     go true rest = rest
     go false rest = (others, rest)
+
+-- ---- a site is one byte
+
+abbrev pub Low : List Part → Type 0
+Low [] = Unit
+Low (p ∷ ps) = (p .site < 256) × Low ps
+
+pub low-without : (head site : ℕ) (ps : List Part) → Low ps → Low (without head site ps)
+unfolding without
+low-without head site [] low = tt
+low-without head site (p ∷ ps) low = go (isAt head site p) (low-without head site ps (low .1))
+  where
+    go : (a : Bool) → Low (without head site ps) → Low (cond a (without head site ps) (p ∷ without head site ps))
+    go true rest = rest
+    go false rest = (low .0, rest)
+
+-- ---- the smallest
+
+abbrev pub number : Part → ℕ
+number p = partOf (p .head) (p .site)
+
+-- one that is open is the first, or one of the others
+open-by : {C : Type 0} (p : Part) (ps : List Part) (head site : ℕ) → isOpen (p ∷ ps) head site ≡ true
+    → (p .head ≡ head → p .site ≡ site → C) → (isOpen ps head site ≡ true → C) → C
+unfolding isOpen
+open-by {C = C} p ps head site e here there = go (isAt head site p) refl e
+  where
+    go : (a : Bool) → isAt head site p ≡ a → (a || isOpen ps head site) ≡ true → C
+    go true is f =
+        here (eqb-true (p .head) head (both-left (eqb (p .head) head) (eqb (p .site) site) is))
+        (eqb-true (p .site) site (both-right (eqb (p .head) head) (eqb (p .site) site) is))
+    go false is f = there f
+
+pub open-low : (ps : List Part) (head site : ℕ) → Low ps → isOpen ps head site ≡ true → site < 256
+unfolding isOpen
+open-low [] head site low e = absurd (false≢true e)
+open-low (p ∷ ps) head site low e =
+    open-by p ps head site e (λ is same. omega (arith, low .0, same)) (λ f. open-low ps head site (low .1) f)
+
+-- it is open
+pub least-open : (p : Part) (ps : List Part) → isOpen (p ∷ ps) (leastOf p ps .head) (leastOf p ps .site) ≡ true
+unfolding isOpen leastOf
+least-open p [] = rw (eq-eqb (p .head) (p .head) refl, eq-eqb (p .site) (p .site) refl)
+least-open p (q ∷ qs) = go (precedes p (leastOf q qs)) (least-open q qs)
+  where
+    go : (a : Bool) → isOpen (q ∷ qs) (leastOf q qs .head) (leastOf q qs .site) ≡ true
+        → isOpen (p ∷ q ∷ qs) (cond a p (leastOf q qs) .head) (cond a p (leastOf q qs) .site) ≡ true
+    go true rest = rw (eq-eqb (p .head) (p .head) refl, eq-eqb (p .site) (p .site) refl)
+    go false rest =
+        ap (λ (t : Bool). isAt (leastOf q qs .head) (leastOf q qs .site) p || t) rest
+        ∙ or-true (isAt (leastOf q qs .head) (leastOf q qs .site) p)
+
+pub least-low : (p : Part) (ps : List Part) → Low (p ∷ ps) → leastOf p ps .site < 256
+least-low p ps low = open-low (p ∷ ps) (leastOf p ps .head) (leastOf p ps .site) low (least-open p ps)
+
+-- .. and none that is open is below it
+pub least-first : (p : Part) (ps : List Part) (head site : ℕ) → Low (p ∷ ps) → isOpen (p ∷ ps) head site ≡ true
+    → number (leastOf p ps) ≤ partOf head site
+unfolding isOpen leastOf
+least-first p [] head site low e =
+    open-by p [] head site e (λ is same. rw (is, same) (omega arith)) (λ f. absurd (false≢true f))
+least-first p (q ∷ qs) head site low e =
+    let least = leastOf q qs in
+    go (precedes p least)
+    (sym (part-rises (p .head) (p .site) (least .head) (least .site) (low .0) (least-low q qs (low .1))))
+    (λ f. least-first q qs head site (low .1) f)
+  where
+    go : (a : Bool) → a ≡ ltb (number p) (number (leastOf q qs))
+        → (isOpen (q ∷ qs) head site ≡ true → number (leastOf q qs) ≤ partOf head site)
+        → number (cond a p (leastOf q qs)) ≤ partOf head site
+    go true is rest =
+        let below = ltb-true (number p) (number (leastOf q qs)) (sym is) in
+        open-by p (q ∷ qs) head site e (λ same also. rw (same, also) (omega arith))
+        (λ f. omega (arith, below, rest f))
+    go false is rest =
+        let above = ltb-false (number p) (number (leastOf q qs)) (sym is) in
+        open-by p (q ∷ qs) head site e (λ same also. rw (← same, ← also) above) rest

@@ -12,7 +12,8 @@ use Rattle.answers.specs.Numbers.{numberOf}
 use Rattle.rows.specs.Rows.{slotCount}
 use Rattle.session.specs.declared.Verdict.{Verdict}
 use Rattle.session.specs.declared.Verdict.the-variants.{Refused, Taken, Wanted}
-use Rattle.session.specs.Verdicts.{verdictNumber, byItself}
+use Rattle.session.specs.Session.{partsOf}
+use Rattle.session.specs.Verdicts.{verdictNumber, ByItself}
 use Rattle.judging.specs.Judge.{verdictOn}
 use Rattle.judging.proofs.Laws.{judged-refusal}
 use Rattle.house.specs.declared.House.{House}
@@ -58,9 +59,9 @@ never-refused calls slot rec sent bytes below refused =
 module _ (slot : ℕ) (b : Book) (h : House) (p : Agree slot b h) (shape : Shaped h) (e : sound h ≡ true) where
   -- the row that a record asks for
   asks-told : (rec : List ℕ) (v : Verdict) → Booked b (slotAt h slot .session) rec v
-      → ((a : Answer) → v ≡ Refused a → byItself a ≡ true)
+      → ((a : Answer) → v ≡ Refused a → ByItself (partsOf (slotAt h slot .session)) a)
       → cond (eqb (verdictNumber v) 0) (asked b (resultsIn (saidIn b rec))) 0 ≡ house.asking slot (keysOf h) v
-  asks-told rec (Refused a) kept own = rw (own-number a (own a refl))
+  asks-told rec (Refused a) kept own = rw (own-number a (own a refl .0))
   asks-told rec (Taken change) kept own = rw (kept .1)
   asks-told rec (Wanted change key) kept own =
       let asks = kept .1 in

@@ -9,9 +9,11 @@ use Prim.Native.Nat.{ℕ}
 use native.Mathlib.Omega.{arith}
 use borrow.Author.Tests.{eq-eqb}
 use lib.Dec.{eqb, leb, ltb}
-use lib.ListN.{length}
+use lib.ListN.{length, getD}
+use Rattle.prelude.specs.All.{all}
 use Rattle.prelude.specs.Checks.{Check, _else_, numberBy}
 use Rattle.prelude.specs.Each.{each}
+use Rattle.prelude.proofs.All.{all-at}
 use Rattle.prelude.proofs.Both.{both-left, both-right}
 use Rattle.numbers.specs.Laws.{Bytes}
 use Rattle.kinds.specs.Kinds.{known}
@@ -44,11 +46,11 @@ use Rattle.books.proofs.Accepting.{done-checks, by-accepted}
 -- ---- 8, and the place of a record
 
 -- a check that a number is given by holds
-abbrev spares : ℕ → Check ℕ → Bool
+abbrev pub spares : ℕ → Check ℕ → Bool
 spares m c = not (eqb (c .answer) m) || c .holds
 
 -- where each of them does, the number is not given
-never-given : (m : ℕ) (cs : List (Check ℕ)) → (0 ≡ m → ⊥) → each (spares m) cs ≡ true → numberBy cs ≡ m → ⊥
+pub never-given : (m : ℕ) (cs : List (Check ℕ)) → (0 ≡ m → ⊥) → each (spares m) cs ≡ true → numberBy cs ≡ m → ⊥
 never-given m [] some e given = some given
 never-given m (c ∷ cs) some e given =
     go (c .holds) (both-left (spares m c) (each (spares m) cs) e)
@@ -67,17 +69,33 @@ at-start Setup e = absurd (false≢true e)
 at-start Body e = absurd (false≢true e)
 at-start Ended e = absurd (false≢true e)
 
--- a kind's own checks do not give 8, nor does 13
-own-spare : (opens : ℕ → ℕ → Bool) (opened results : ℕ) (pcr room : Bool) (r : Record)
-    → each (spares 8) (ownChecks opens opened results pcr r ++ ((room else 13) ∷ [])) ≡ true
-own-spare opens opened results pcr room (said.Pir p) = refl
-own-spare opens opened results pcr room (said.Prr p) = refl
-own-spare opens opened results pcr room said.Mrr = refl
-own-spare opens opened results pcr room (said.Pcr p) = refl
-own-spare opens opened results pcr room (said.Far f) = refl
-own-spare opens opened results pcr room said.Mir = refl
-own-spare opens opened results pcr room (said.Bin b) = refl
-own-spare opens opened results pcr room said.Unread = refl
+-- a number that a kind's own checks, and 13 behind them, do not give: 12 is one where no part is open
+abbrev unowned : ℕ → ℕ → List Bool
+unowned m opened =
+    not (eqb 9 m) ∷
+    not (eqb 10 m) ∷
+    not (eqb 11 m) ∷
+    (not (eqb 12 m) || eqb opened 0) ∷
+    not (eqb 13 m) ∷
+    not (eqb 14 m) ∷
+    not (eqb 20 m) ∷
+    []
+
+module _ (m opened : ℕ) (clear : all (unowned m opened) ≡ true) (opens : ℕ → ℕ → Bool) (results : ℕ) (pcr room : Bool)
+  where
+    spared : (i : ℕ) → getD (unowned m opened) i true ≡ true
+    spared i = all-at (unowned m opened) clear i
+
+    pub own-spare : (r : Record)
+        → each (spares m) (ownChecks opens opened results pcr r ++ ((room else 13) ∷ [])) ≡ true
+    own-spare (said.Pir p) = rw (spared 0, spared 2, spared 4)
+    own-spare (said.Prr p) = rw (spared 1, spared 5, spared 4)
+    own-spare said.Mrr = rw (spared 3, spared 6, spared 4)
+    own-spare (said.Pcr p) = rw (spared 4)
+    own-spare (said.Far f) = rw (spared 4)
+    own-spare said.Mir = rw (spared 4)
+    own-spare (said.Bin b) = rw (spared 4)
+    own-spare said.Unread = rw (spared 4)
 
 module _ (b : Book) (rec : List ℕ) (room : Bool) where
   abbrev later : List (Check ℕ)
@@ -116,7 +134,7 @@ module _ (b : Book) (rec : List ℕ) (room : Bool) where
       go true starts = rw (sym (first-placed starts) ∙ is)
       go false further =
           rw is
-          (own-spare (isOpen (b .parts)) (length (b .parts)) (length (b .results)) (b .pcr) room
+          (own-spare 8 (length (b .parts)) refl (isOpen (b .parts)) (length (b .results)) (b .pcr) room
           (saidOf (readBody (b .order) (kindIn rec) (body rec))))
 
 -- ---- one record more

@@ -23,7 +23,8 @@ use Rattle.rows.specs.Counts.{has}
 use Rattle.rows.proofs.Counts.{rows-has}
 use Rattle.session.specs.declared.Verdict.{Verdict}
 use Rattle.session.specs.declared.Verdict.the-variants.{Refused, Taken, Wanted}
-use Rattle.session.specs.Verdicts.{verdictNumber, byItself}
+use Rattle.session.specs.Session.{partsOf}
+use Rattle.session.specs.Verdicts.{verdictNumber, ByItself}
 use Rattle.judging.specs.Judge.{verdictOn}
 use Rattle.judging.proofs.Laws.{judged-refusal}
 use Rattle.house.specs.declared.House.{House}
@@ -141,10 +142,11 @@ module _ (slot : ℕ) (b : Book) (h : House) (p : Agree slot b h) (shape : Shape
       (ap₂ ltb owed-now free-now)
 
   room-told : (rec : List ℕ) (v : Verdict) → Booked b (slotAt h slot .session) rec v
-      → ((a : Answer) → v ≡ Refused a → byItself a ≡ true) → slot < slotCount → slotAt h slot .taken ≡ true
+      → ((a : Answer) → v ≡ Refused a → ByItself (partsOf (slotAt h slot .session)) a) → slot < slotCount
+      → slotAt h slot .taken ≡ true
       → verdictNumber v ≡ 0 → roomFor h slot v ≡ rowFor free-is promised-is b (resultsIn (saidIn b rec))
   room-told rec (Refused a) kept own inside t done =
-      absurd (false≢true (sym (own-number a (own a refl)) ∙ ap (λ (n : ℕ). eqb n 0) done))
+      absurd (false≢true (sym (own-number a (own a refl .0)) ∙ ap (λ (n : ℕ). eqb n 0) done))
   room-told rec (Taken change) kept own inside t done = rw (kept .1)
   room-told rec (Wanted change key) kept own inside t done =
       let asks = kept .1 in

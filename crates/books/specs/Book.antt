@@ -2,6 +2,7 @@
 -- a house, a session or a row's key.
 --
 --   Part               an open part: a head and a site; isOpen, without, whether one is open, and the parts without it
+--   smallestOf         the smallest head and site of open parts, in the order of a report
 --   Book               open or not, its floor, its place in the stream, its byte order, its open parts, whether a PCR
 --                      was accepted, its accepted part results, the last first
 --   noted              .. after one more accepted record; saidIn, what such a record says; resultsIn, partsAfter,
@@ -14,8 +15,10 @@
 use Prim.Native.Nat.{ℕ, zero, suc, _+_, _-_}
 use mathlib.Core.Bool.{Bool, true, false, cond, _&&_, _||_}
 use mathlib.Core.List.{List, [], _∷_, _++_}
-use lib.Dec.{eqb}
+use lib.Dec.{eqb, ltb}
 use lib.ListN.{length}
+use Rattle.answers.specs.declared.Values.{Values}
+use Rattle.answers.specs.declared.Values.the-variants as values
 use Rattle.numbers.specs.declared.Order.{Order}
 use Rattle.numbers.specs.declared.Order.the-variants.{HighFirst}
 use Rattle.kinds.specs.declared.Kind.{Kind}
@@ -55,6 +58,18 @@ isOpen (p ∷ ps) head site = isAt head site p || isOpen ps head site
 unfoldable pub without : ℕ → ℕ → List Part → List Part
 without head site [] = []
 without head site (p ∷ ps) = cond (isAt head site p) (without head site ps) (p ∷ without head site ps)
+
+-- #101: in rising order of head, then site
+abbrev pub precedes : Part → Part → Bool
+precedes p q = ltb (p .head) (q .head) || (eqb (p .head) (q .head) && ltb (p .site) (q .site))
+
+unfoldable pub leastOf : Part → List Part → Part
+leastOf p [] = p
+leastOf p (q ∷ qs) = let least = leastOf q qs in cond (precedes p least) p least
+
+abbrev pub smallestOf : List Part → Values
+smallestOf [] = values.Nothing
+smallestOf (p ∷ ps) = let least = leastOf p ps in values.Part (least .head) (least .site)
 
 -- ---- the book
 

@@ -4,6 +4,7 @@
 -- by books: nothing right of an equation is of a house, a session or a row's key.
 --
 --   recordChecks   the checks of a record by itself, and roomTo whether the house has room for it
+--   carriedBy      what an answer with a number carries beside it, and Smallest what that is of 12
 --   needs          the rows that a session needs at a call
 --   assured        the replies to a session while it is open and needs no more rows than its floor
 -- Assumes nothing.
@@ -15,7 +16,10 @@ use lib.Dec.{eqb, leb, ltb}
 use lib.ListN.{length}
 use Rattle.prelude.specs.Checks.{Check, _else_, numberBy}
 use Rattle.answers.specs.declared.Answer.the-variants.{Done, NoRoom}
-use Rattle.answers.specs.Numbers.{numberOf}
+use Rattle.answers.specs.declared.Values.{Values}
+use Rattle.answers.specs.declared.Values.the-variants as values
+use Rattle.answers.specs.declared.Values.the-variants.{Nothing}
+use Rattle.answers.specs.Numbers.{numberOf, valuesOf}
 use Rattle.numbers.specs.Laws.{Bytes}
 use Rattle.session.specs.Session.{isStart}
 use Rattle.first_record.specs.Laws.{firstChecks}
@@ -23,13 +27,16 @@ use Rattle.later_records.specs.Laws.{laterChecks}
 use Rattle.rows.specs.Rows.{slotCount}
 use Rattle.house.specs.House.{rowCount, fresh}
 use Rattle.house.specs.History.{Call, Open, Deliver, Report, Close, Figured, Reply, Listed, Read, answerOf, reply}
-use Rattle.house.specs.History.{Said, after, reached, history, names, named, AllSent}
+use Rattle.house.specs.History.{Said, after, reached, history, names, named, Sent, AllSent}
 use Rattle.tallies.specs.Results.{PartResult, among, tallyOf}
-use Rattle.books.specs.Book.{Book, isOpen, openedWith, saidIn, resultsIn, heard, bookOf, rowsIn, over, freeBy}
-use Rattle.books.specs.Book.{promisedBy}
+use Rattle.books.specs.Book.{Part, Book, isOpen, part, precedes, smallestOf, openedWith, saidIn, resultsIn, heard}
+use Rattle.books.specs.Book.{bookOf, rowsIn, over, freeBy, promisedBy}
 
 abbrev pub numberTold : List Call → Call → ℕ
 numberTold calls c = numberOf (answerOf (reply (reached fresh calls) c))
+
+abbrev pub valuesTold : List Call → Call → Values
+valuesTold calls c = valuesOf (answerOf (reply (reached fresh calls) c))
 
 -- ---- open
 
@@ -73,6 +80,32 @@ DeliverTold = (calls : List Call) (slot : ℕ) (rec : List ℕ) → AllSent call
     ((ltb slot slotCount else 1)
     ∷ (b .opened else 2)
     ∷ (recordChecks b rec ++ ((roomTo es b rec else 13) ∷ [])))
+
+-- ---- #101: what an answer carries beside its number
+
+-- 12 carries the smallest head and site of the slot's open parts, and no other answer carries anything
+abbrev pub carriedBy : List Said → ℕ → Call → Values
+carriedBy es n (Deliver slot rec) = cond (eqb n 12) (smallestOf (bookOf slot es .parts)) Nothing
+carriedBy es n (Open slot floor) = Nothing
+carriedBy es n (Report slot long) = Nothing
+carriedBy es n (Close slot) = Nothing
+carriedBy es n Figured = Nothing
+
+abbrev pub ValuesTold : Type 0
+ValuesTold = (calls : List Call) (c : Call) → AllSent calls → Sent c
+    → valuesTold calls c ≡ carriedBy (history fresh calls) (numberTold calls c) c
+
+-- what 12 names is a part that is open, and no open one precedes it
+abbrev pub Smallest : List Part → Values → Type 0
+Smallest parts values.Nothing = ⊥
+Smallest parts (values.Part head site) =
+    (isOpen parts head site ≡ true)
+    × ((h s : ℕ) → isOpen parts h s ≡ true → precedes (part h s) (part head site) ≡ false)
+
+abbrev pub SmallestTold : Type 0
+SmallestTold = (calls : List Call) (slot : ℕ) (rec : List ℕ) → AllSent calls → Bytes rec
+    → let parts = bookOf slot (history fresh calls) .parts in
+    numberTold calls (Deliver slot rec) ≡ 12 → Smallest parts (valuesTold calls (Deliver slot rec))
 
 -- ---- report, close, figures
 

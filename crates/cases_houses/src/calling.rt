@@ -8,6 +8,8 @@ use case_lines::say_values;
 use deliveries::deliver;
 use house::House;
 use reports::judge_report;
+use transcript::say;
+use transcript::say_answer;
 
 fn wide(answer: Answer) -> u64 {
     number(answer) as u64
@@ -51,5 +53,7 @@ pub(crate) fn say_calls(h: House) {
 pub(crate) fn say_delivered(h: House, rec: &[u8]) {
     let delivered = deliver(h, 0, rec);
     let answer = delivered.answer;
-    say_values(b" |\n", [wide(answer), 0, 0, 0, 0, 0, 0, 0]);
+    say(b" ");
+    say_answer(answer);
+    say(b"\n");
 }

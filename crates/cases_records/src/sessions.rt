@@ -6,56 +6,34 @@ use judging::judge_record;
 use kinds::kind_of;
 use session::Session;
 use session::Verdict;
-use session::verdict_number;
+use session::verdict_answer;
 use transcript::say;
+use transcript::say_answer;
 use transcript::say_cell;
 use transcript::say_kind_wide;
 use transcript::say_number;
 use transcript::say_place;
 
-// A verdict's number, and the key of the row that it asks for, 0 where it asks for none.
-struct Told {
-    number: u8,
-    wants: bool,
-    key: u32,
-}
-
-fn told_of(verdict: Verdict) -> Told {
-    let number = verdict_number(verdict);
+// The row that a part result asks for.
+fn say_wanted(verdict: Verdict) {
     match verdict {
-        Verdict::Wanted(_, key) => Told {
-            number,
-            wants: true,
-            key,
-        },
-        _ => Told {
-            number,
-            wants: false,
-            key: 0,
-        },
+        Verdict::Wanted(_, key) => say_row(key as u64),
+        _ => say(b""),
     }
 }
 
-// The number, and the row that a part result asks for.
-fn say_told(t: Told) {
-    let n = t.number as u64;
-    let key = t.key as u64;
-    if t.wants {
-        return say_values(
-            b" |, row |/| bin |, ",
-            [
-                n,
-                key / 16777216,
-                key / 65536 % 256,
-                key % 65536,
-                0,
-                0,
-                0,
-                0,
-            ],
-        );
-    }
-    say_values(b" |, ", [n, 0, 0, 0, 0, 0, 0, 0]);
+fn say_row(key: u64) {
+    let values = [
+        key / 16777216,
+        key / 65536 % 256,
+        key % 65536,
+        0,
+        0,
+        0,
+        0,
+        0,
+    ];
+    say_values(b", row |/| bin |", values);
 }
 
 pub(crate) fn deliver(s: Session, rec: &[u8]) -> Session {
@@ -74,7 +52,10 @@ pub(crate) fn deliver(s: Session, rec: &[u8]) -> Session {
         0,
         0,
     ];
-    say_told(told_of(verdict));
+    say(b" ");
+    say_answer(verdict_answer(verdict));
+    say_wanted(verdict);
+    say(b", ");
     say_place(place);
     say_values(b", open |, accepted |\n", values);
     next
@@ -99,7 +80,7 @@ fn session_at(place: u8) -> Session {
 fn say_after(place: u8, rec: &[u8]) {
     let judged = judge_record(session_at(place), rec);
     let verdict = judged.verdict;
-    let n = told_of(verdict).number;
+    let n = answers::number(verdict_answer(verdict));
     if n == 0 {
         let next = judged.session;
         let standing = next.standing;

@@ -5,7 +5,7 @@ pub(crate) fn say_help() {
     say(
         b"# fresh                        0\n\
         # open SLOT FLOOR              N\n\
-        # deliver SLOT HEX             N\n\
+        # deliver SLOT HEX             N, or: 12 HEAD SITE\n\
         # report SLOT LENGTH           N, or: 0 COUNT H/S/B=C H/S/B=C ..\n\
         # close SLOT                   N\n\
         # figures                      N, or: 0 FREE PROMISED\n\

@@ -3,7 +3,7 @@
 //
 //     fresh                 0
 //     open SLOT FLOOR       N
-//     deliver SLOT HEX      N
+//     deliver SLOT HEX      N, or: 12 HEAD SITE
 //     report SLOT LENGTH    N, or: 0 COUNT H/S/B=C H/S/B=C ..
 //     close SLOT            N
 //     figures               N, or: 0 FREE PROMISED

@@ -23,8 +23,8 @@ use Rattle.rows.proofs.Counts.{rows-held-by, rows-at, plus-rising}
 use Rattle.session.specs.declared.Standing.{Standing}
 use Rattle.session.specs.declared.Verdict.{Verdict}
 use Rattle.session.specs.declared.Verdict.the-variants.{Refused, Taken, Wanted}
-use Rattle.session.specs.Session.{isStart, Follows}
-use Rattle.session.specs.Verdicts.{byItself}
+use Rattle.session.specs.Session.{partsOf, isStart, Follows}
+use Rattle.session.specs.Verdicts.{ownNumber, ByItself}
 use Rattle.settling.specs.Settling.{changed}
 use Rattle.first_record.specs.First.{orderIn}
 use Rattle.later_records.specs.Results.{Result, None, Part, resultOf}
@@ -142,14 +142,14 @@ module _ (slot : ℕ) (t : Heard) (h : House) (p : Agree slot t h) where
 
   -- any verdict that is accepted
   agree-verdict : (rec : List ℕ) (v : Verdict) (o : Answered) → slotAt h slot .taken ≡ true → Own h slot v o
-      → ((a : Answer) → v ≡ Refused a → byItself a ≡ true)
+      → ((a : Answer) → v ≡ Refused a → ByItself (partsOf (slotAt h slot .session)) a)
       → (isStart (slotAt h slot .session .standing .place) ≡ true → Begins (slotAt h slot .session) rec v)
       → (isStart (slotAt h slot .session .standing .place) ≡ false
       → Tells (slotAt h slot .session) rec v)
       → numberOf (o .answer) ≡ 0 → Agree slot (following t rec) (o .house)
   agree-verdict rec (Refused a) o opened own refusal begins tells done =
       let zero-number : numberOf a ≡ 0 = ap numberOf (sym (own .answer)) ∙ done in
-      absurd (false≢true (sym (own-number a (refusal a refl)) ∙ ap (λ (n : ℕ). eqb n 0) zero-number))
+      absurd (false≢true (sym (own-number a (refusal a refl .0)) ∙ ap (λ (n : ℕ). eqb n 0) zero-number))
   agree-verdict rec (Taken change) o opened own refusal begins tells done =
       agree-by rec (o .house) (changed (slotAt h slot .session) change .standing) (rowsAt h slot) opened
       (rw (own .stands) opened) (rw (own .stands)) (rw (own .stands)) (own .rows)
@@ -474,9 +474,11 @@ never-refused calls slot rec sent bytes below refused = go (told .opened) refl
     verdict : Verdict
     verdict = verdictOn (slotAt h slot .session) rec
 
-    by : (v : Verdict) → ((a : Answer) → v ≡ Refused a → byItself a ≡ true)
+    by : (v : Verdict)
+        → ((a : Answer) → v ≡ Refused a → ByItself (partsOf (slotAt h slot .session)) a)
         → heldBy slot (keysOf h) < slotAt h slot .floor → answerBy v (roomFor h slot v) ≡ NoRoom → ⊥
-    by (Refused a) own low is = false≢true (sym (ap byItself is) ∙ own a refl)
+    by (Refused a) own low is =
+        false≢true (sym (ap (λ (x : Answer). ownNumber (numberOf x)) is) ∙ own a refl .0)
     by (Taken change) own low is = omega (arith, ap numberOf is)
     by (Wanted change key) own low is =
         let got = granted-below (roomOf h slot) (keysOf h) (rowKey slot key) low in

@@ -1,10 +1,11 @@
 -- Demand 1 and the first half of demand 2, proved (specs/Demands.antt): a refusal changes nothing, its number is the
 -- first check that fails, and a record is accepted exactly if none does.
 -- Assumes nothing.
-use mathlib.Core.Path.{_≡_, refl, ap, _∙_}
+use mathlib.Core.Path.{_≡_, refl, ap, sym, _∙_}
 use mathlib.Core.Bool.{Bool, true, false, _&&_, false≢true}
 use mathlib.Core.List.{[], _∷_}
 use Prim.Native.Nat.{ℕ}
+use borrow.Author.Tests.{ne-eqb}
 use lib.Dec.{ltb, eqb}
 use lib.ListN.{length}
 use Rattle.prelude.specs.Checks.{_else_, numberBy}
@@ -16,7 +17,8 @@ use Rattle.answers.specs.Numbers.{numberOf}
 use Rattle.rows.specs.Rows.{slotCount, rowKey, heldBy}
 use Rattle.session.specs.declared.Verdict.{Verdict}
 use Rattle.session.specs.declared.Verdict.the-variants.{Refused, Taken, Wanted}
-use Rattle.session.specs.Verdicts.{verdictNumber, byItself}
+use Rattle.session.specs.Session.{partsOf}
+use Rattle.session.specs.Verdicts.{verdictNumber, ownNumber, ByItself}
 use Rattle.judging.specs.Judge.{verdictOn}
 use Rattle.judging.proofs.Laws.{judged-refusal}
 use Rattle.house.specs.declared.House.{House}
@@ -89,35 +91,16 @@ open-number h slot floor =
     checked-number (refusal h) numberOf number (λ a. refl) (openChecks h slot floor) [] _ (λ e. refl)
 
 -- a record by itself is never refused with 0
-pub own-number : (a : Answer) → byItself a ≡ true → eqb (numberOf a) 0 ≡ false
-own-number answer.Done is = absurd (false≢true is)
-own-number answer.NoSuchSlot is = refl
-own-number answer.SlotTaken is = refl
-own-number answer.SlotClosed is = refl
-own-number answer.NotOneRecord is = refl
-own-number answer.UnknownOrder is = refl
-own-number answer.WrongVersion is = refl
-own-number answer.UnknownKind is = refl
-own-number answer.BodyMisfit is = refl
-own-number answer.OutOfPlace is = refl
-own-number answer.PartOpen is = refl
-own-number answer.PartNotOpen is = refl
-own-number answer.TooManyParts is = refl
-own-number answer.NotFinished is = refl
-own-number answer.NoRoom is = refl
-own-number answer.TooManyResults is = refl
-own-number answer.NotSound is = refl
-own-number answer.FloorTooHigh is = refl
-own-number answer.OutputTooShort is = refl
-own-number answer.NotACountLine is = refl
-own-number answer.NameNotText is = refl
+pub own-number : (a : Answer) → ownNumber (numberOf a) ≡ true → eqb (numberOf a) 0 ≡ false
+own-number a own = ne-eqb (numberOf a) 0 (λ none. false≢true (sym (ap ownNumber none) ∙ own))
 
 -- a verdict's own number, then 13
-settled-number : (h : House) (slot : ℕ) (v : Verdict) → ((a : Answer) → v ≡ Refused a → byItself a ≡ true)
+settled-number : (h : House) (slot : ℕ) (v : Verdict)
+    → ((a : Answer) → v ≡ Refused a → ByItself (partsOf (slotAt h slot .session)) a)
     → number (withOutcome h slot (settledTo h slot v))
     ≡ numberBy ((eqb (verdictNumber v) 0 else verdictNumber v) ∷ (roomFor h slot v else 13) ∷ [])
 unfolding settled resultedIf rowTaken
-settled-number h slot (Refused a) own = rw (own-number a (own a refl))
+settled-number h slot (Refused a) own = rw (own-number a (own a refl .0))
 settled-number h slot (Taken change) own = refl
 settled-number h slot (Wanted change key) own = go (granted (roomOf h slot) (keysOf h) (rowKey slot key)) refl
   where

@@ -36,7 +36,7 @@ use Rattle.session.specs.declared.Verdict.{Verdict}
 use Rattle.session.specs.declared.Verdict.the-variants.{Refused, Taken, Wanted}
 use Rattle.session.specs.Session.{mostOpen, mostResults, partOf, keyOf, pastParts, partsOf, isStart, nothingYet}
 use Rattle.session.specs.Session.{partsRight, sound}
-use Rattle.session.specs.Verdicts.{stands, byItself}
+use Rattle.session.specs.Verdicts.{stands, ByItself}
 use Rattle.session.proofs.Laws.{parts-right, sound-right, sound-parts-told, sound-stands-told, stands-from}
 use Rattle.session.proofs.Laws.{stands-before, start-before, past-start}
 use Rattle.settling.specs.Settling.{changed, after, countedParts, Settles}
@@ -65,18 +65,19 @@ judged-later st parts rec e = rw e
 
 -- ---- the ways to be accepted
 
-module _ (P : Verdict → Type 0) (refused : (a : Answer) → byItself a ≡ true → P (Refused a)) where
-  judge-cases : (st : Standing) (parts rec : List ℕ)
-      → ((order : Order) → isStart (st .place) ≡ true → orderIn rec ≡ order → P (Taken (stands (inOrder st order))))
-      → ((k : Kind) (q : Place) (r : Record) → kindOf (recTyp rec) (recSub rec) ≡ k → goes (st .place) k ≡ To q
-      → readBody (st .order) k (body rec) ≡ Fits r → P (judgeSaid (at st q) parts r))
-      → P (judge st parts rec)
-  unfolding judge
-  judge-cases st parts rec first later = go (isStart (st .place)) refl
-    where
-      go : (t : Bool) → isStart (st .place) ≡ t → P (cond t (judgeFirst st rec) (judgeLater st parts rec))
-      go true e = first-cases P refused st rec (λ order. first order e)
-      go false e = later-cases P refused st parts rec later
+module _ (parts : List ℕ) (P : Verdict → Type 0) (refused : (a : Answer) → ByItself parts a → P (Refused a))
+  where
+    judge-cases : (st : Standing) (rec : List ℕ)
+        → ((order : Order) → isStart (st .place) ≡ true → orderIn rec ≡ order → P (Taken (stands (inOrder st order))))
+        → ((k : Kind) (q : Place) (r : Record) → kindOf (recTyp rec) (recSub rec) ≡ k → goes (st .place) k ≡ To q
+        → readBody (st .order) k (body rec) ≡ Fits r → P (judgeSaid (at st q) parts r))
+        → P (judge st parts rec)
+    unfolding judge
+    judge-cases st rec first later = go (isStart (st .place)) refl
+      where
+        go : (t : Bool) → isStart (st .place) ≡ t → P (cond t (judgeFirst st rec) (judgeLater st parts rec))
+        go true e = first-cases parts P refused st rec (λ order. first order e)
+        go false e = later-cases parts P refused st rec later
 
 -- ---- a part opens and closes among the open ones
 
@@ -85,9 +86,9 @@ opened-long s long e = length-take-le (s .standing .opened) (s .parts) (omega (a
 
 pub judged-settles : JudgedSettles
 judged-settles st cells rec k =
-    judge-cases (Settles (st .opened)) (λ a own. tt) st parts rec (λ order h is. tt)
+    judge-cases parts (Settles (st .opened)) (λ a own. tt) st rec (λ order h is. tt)
     (λ kind q r is h f.
-    said-cases (Settles (st .opened)) (λ a own. tt) (at st q) parts r (λ t. tt) (λ p t. tt)
+    said-cases parts (Settles (st .opened)) (λ a own. tt) (at st q) r (λ t. tt) (λ p t. tt)
     (λ p t new few. (omega (arith, rank-within (partOf (p .head) (p .site)) parts, long), few))
     (λ p t there few. omega (arith, held-rank (partOf (p .head) (p .site)) parts (k .rises) there .0, long))
     (λ t done. tt))
@@ -103,9 +104,9 @@ judged-settles st cells rec k =
 pub judged-counts : JudgedCounts
 unfolding after changed
 judged-counts s rec =
-    judge-cases Counts (λ a own. omega arith) (s .standing) (partsOf s) rec (λ order h is. omega arith)
+    judge-cases (partsOf s) Counts (λ a own. omega arith) (s .standing) rec (λ order h is. omega arith)
     (λ k q r is h f.
-    said-cases Counts (λ a own. omega arith) (at (s .standing) q) (partsOf s) r (λ t. omega arith) (λ p t. omega arith)
+    said-cases (partsOf s) Counts (λ a own. omega arith) (at (s .standing) q) r (λ t. omega arith) (λ p t. omega arith)
     (λ p t new few. omega arith) (λ p t there few. refl) (λ t done. omega arith))
   where
     Counts : Verdict → Type 0
@@ -114,9 +115,9 @@ judged-counts s rec =
 pub judged-few : JudgedFew
 unfolding after changed
 judged-few s rec low =
-    judge-cases Few (λ a own. low) (s .standing) (partsOf s) rec (λ order h is. low)
+    judge-cases (partsOf s) Few (λ a own. low) (s .standing) rec (λ order h is. low)
     (λ k q r is h f.
-    said-cases Few (λ a own. low) (at (s .standing) q) (partsOf s) r (λ t. low) (λ p t. low) (λ p t new few. low)
+    said-cases (partsOf s) Few (λ a own. low) (at (s .standing) q) r (λ t. low) (λ p t. low) (λ p t new few. low)
     (λ p t there few. omega (arith, few)) (λ t done. low))
   where
     Few : Verdict → Type 0
@@ -126,9 +127,9 @@ judged-few s rec low =
 
 pub judged-key : JudgedKey
 judged-key s rec bytes =
-    judge-cases KeyRight (λ a own. tt) (s .standing) (partsOf s) rec (λ order h is. tt)
+    judge-cases (partsOf s) KeyRight (λ a own. tt) (s .standing) rec (λ order h is. tt)
     (λ k q r is h f.
-    said-cases KeyRight (λ a own. tt) (at (s .standing) q) (partsOf s) r (λ t. tt) (λ p t. tt) (λ p t new few. tt)
+    said-cases (partsOf s) KeyRight (λ a own. tt) (at (s .standing) q) r (λ t. tt) (λ p t. tt) (λ p t new few. tt)
     (λ p t there few.
     let told = said-right (s .standing .order) k (body rec) r (bytes-drop header rec bytes) f in
     let right : Right (said.Prr p) = subst Right t told in
@@ -140,9 +141,9 @@ judged-key s rec bytes =
 pub judged-long : JudgedLong
 unfolding after changed
 judged-long s rec long e =
-    judge-cases Long (λ a own. long) (s .standing) (partsOf s) rec (λ order h is. long)
+    judge-cases (partsOf s) Long (λ a own. long) (s .standing) rec (λ order h is. long)
     (λ k q r is h f.
-    said-cases Long (λ a own. long) (at (s .standing) q) (partsOf s) r (λ t. long) (λ p t. long)
+    said-cases (partsOf s) Long (λ a own. long) (at (s .standing) q) r (λ t. long) (λ p t. long)
     (λ p t new few.
     let part = partOf (p .head) (p .site) in
     insert-length (s .parts) (s .standing .opened) (rank part (partsOf s)) part
@@ -213,7 +214,7 @@ module _ (s : Session) (long : length (s .parts) ≡ mostOpen) (e : sound s ≡ 
 pub judged-sound : JudgedSound
 unfolding after changed
 judged-sound s rec bytes long e =
-    judge-cases Sound (λ a own. e) (s .standing) (partsOf s) rec
+    judge-cases (partsOf s) Sound (λ a own. e) (s .standing) rec
     (λ order h is.
     sound-right (after s (Taken (stands (inOrder (s .standing) order)))) (right s long e)
     (yet (start-before (s .standing .place) h)))
@@ -223,7 +224,7 @@ judged-sound s rec bytes long e =
     let next = at (s .standing) q in
     let b = body rec in
     let said-part : Right r = said-right order k b r (bytes-drop header rec bytes) fits in
-    said-cases Sound (λ a own. e) next (partsOf s) r
+    said-cases (partsOf s) Sound (λ a own. e) next r
     (λ quieted.
     sound-right (after s (Taken (stands next))) (right s long e)
     (stands-from q next (λ h. yet (never-back place q k to h))
@@ -262,18 +263,18 @@ pub judged-begins : JudgedBegins
 unfolding changed
 judged-begins s rec start =
     subst (Begins s rec) (sym (judged-first (s .standing) (partsOf s) rec start))
-    (first-cases (Begins s rec) (λ a own. tt) (s .standing) rec (λ order is. (refl, sym is)))
+    (first-cases (partsOf s) (Begins s rec) (λ a own. tt) (s .standing) rec (λ order is. (refl, sym is)))
 
 pub judged-tells : JudgedTells
 unfolding changed
 judged-tells s rec further =
     let st = s .standing in
     subst (Tells s rec) (sym (judged-later st (partsOf s) rec further))
-    (later-cases (Tells s rec) (λ a own. tt) st (partsOf s) rec (λ k q r named to fits.
+    (later-cases (partsOf s) (Tells s rec) (λ a own. tt) st rec (λ k q r named to fits.
     let past = past-start q (never-start (st .place) q k to) in
     let result : resultOf (st .order) rec ≡ resultIn r =
     ap (λ (j : Kind). resultRead (readBody (st .order) j (body rec))) named ∙ ap resultRead fits in
-    said-cases (Tells s rec) (λ a own. tt) (at st q) (partsOf s) r
+    said-cases (partsOf s) (Tells s rec) (λ a own. tt) (at st q) r
     (λ quieted. (result ∙ quiet-none r quieted, (past, refl)))
     (λ p is. (result ∙ ap resultIn is, (past, refl)))
     (λ p is new few. (result ∙ ap resultIn is, (past, refl)))
@@ -281,18 +282,19 @@ judged-tells s rec further =
     (λ is done. (result ∙ ap resultIn is, (past, refl)))))
 
 -- a verdict that is a refusal is one with a record's own number
-abbrev Own : Verdict → Type 0
-Own (Refused a) = byItself a ≡ true
-Own (Taken change) = Unit
-Own (Wanted change key) = Unit
+abbrev Own : List ℕ → Verdict → Type 0
+Own parts (Refused a) = ByItself parts a
+Own parts (Taken change) = Unit
+Own parts (Wanted change key) = Unit
 
 pub judged-refusal : JudgedRefusal
 judged-refusal s rec a e =
-    subst Own e
-    (judge-cases Own (λ b own. own) (s .standing) (partsOf s) rec (λ order h is. tt)
+    let parts = partsOf s in
+    subst (Own parts) e
+    (judge-cases parts (Own parts) (λ b own. own) (s .standing) rec (λ order h is. tt)
     (λ k q r named to fits.
-    said-cases Own (λ b own. own) (at (s .standing) q) (partsOf s) r (λ quieted. tt) (λ p is. tt) (λ p is new few. tt)
-    (λ p is there few. tt) (λ is done. tt)))
+    said-cases parts (Own parts) (λ b own. own) (at (s .standing) q) r (λ quieted. tt) (λ p is. tt)
+    (λ p is new few. tt) (λ p is there few. tt) (λ is done. tt)))
 
 -- ---- any session
 

@@ -17,8 +17,8 @@ use Rattle.session.specs.declared.Session.{Session}
 use Rattle.session.specs.declared.Standing.{Standing}
 use Rattle.session.specs.declared.Verdict.{Verdict}
 use Rattle.session.specs.declared.Verdict.the-variants.{Refused, Taken, Wanted}
-use Rattle.session.specs.Session.{mostOpen, mostResults, pastParts, isStart, Follows, sound, LentParts}
-use Rattle.session.specs.Verdicts.{byItself}
+use Rattle.session.specs.Session.{mostOpen, mostResults, pastParts, partsOf, isStart, Follows, sound, LentParts}
+use Rattle.session.specs.Verdicts.{ByItself}
 use Rattle.settling.specs.Settling.{changed, after, countedParts, Settles}
 use Rattle.first_record.specs.First.{judgeFirst, orderIn}
 use Rattle.later_records.specs.Later.{judgeLater}
@@ -94,6 +94,6 @@ JudgedBegins = (s : Session) (rec : List ℕ) → isStart (s .standing .place) �
 abbrev pub JudgedTells : Type 0
 JudgedTells = (s : Session) (rec : List ℕ) → isStart (s .standing .place) ≡ false → Tells s rec (verdictOn s rec)
 
--- a record by itself is refused with its own numbers alone
+-- a record by itself is refused with its own numbers alone, and 12 names the smallest of the open parts
 abbrev pub JudgedRefusal : Type 0
-JudgedRefusal = (s : Session) (rec : List ℕ) (a : Answer) → verdictOn s rec ≡ Refused a → byItself a ≡ true
+JudgedRefusal = (s : Session) (rec : List ℕ) (a : Answer) → verdictOn s rec ≡ Refused a → ByItself (partsOf s) a

@@ -8,12 +8,13 @@ use Prim.Native.Nat.{ℕ, zero, suc, _≤_, _<_}
 use native.Mathlib.Omega.{arith}
 use borrow.Author.Tests.{lt-ltb, le-ltb, eq-eqb, ne-eqb}
 use lib.ListN.{take}
+use lib.Seq.{getD-take}
 use Rattle.answers.specs.declared.Answer.the-variants as answer
 use Rattle.rising.specs.Rising.{rank, held}
 use Rattle.session.specs.declared.Standing.{Standing}
 use Rattle.session.specs.declared.Verdict.the-variants.{Refused, Taken, Wanted}
 use Rattle.session.specs.Session.{mostOpen, mostResults}
-use Rattle.session.specs.Verdicts.{stands}
+use Rattle.session.specs.Verdicts.{stands, stillOpen}
 use Rattle.kind_effects.specs.Effects.{opens, closes, judgePir, judgePrr, judgeMrr}
 
 -- a session that holds a part has one open
@@ -51,16 +52,17 @@ module _ (st : Standing) (parts : List ℕ) (part : ℕ) where
       unfolding judgePrr
       prr-wants h = rw (there, lt-ltb (st .results) mostResults h)
 
-module _ (st : Standing) where
-  pub mrr-open : (st .opened ≡ 0 → ⊥) → judgeMrr st ≡ Refused answer.NotFinished
+-- the smallest of the open parts is the first of the cells that they stand in
+module _ (st : Standing) (cells : List ℕ) where
+  pub mrr-open : (st .opened ≡ 0 → ⊥) → judgeMrr st (take (st .opened) cells) ≡ Refused (stillOpen cells)
   unfolding judgeMrr
-  mrr-open e = rw (ne-eqb (st .opened) 0 e)
+  mrr-open e = rw (ne-eqb (st .opened) 0 e, getD-take (st .opened) cells 0 0 (omega (arith, e)))
 
   module _ (none : st .opened ≡ 0) where
-    pub mrr-ends : st .pcr ≡ true → judgeMrr st ≡ Taken (stands st)
+    pub mrr-ends : st .pcr ≡ true → judgeMrr st (take (st .opened) cells) ≡ Taken (stands st)
     unfolding judgeMrr
     mrr-ends e = rw (eq-eqb (st .opened) 0 none, e)
 
-    pub mrr-no-pcr : st .pcr ≡ false → judgeMrr st ≡ Refused answer.NotFinished
+    pub mrr-no-pcr : st .pcr ≡ false → judgeMrr st (take (st .opened) cells) ≡ Refused answer.NoPcr
     unfolding judgeMrr
     mrr-no-pcr e = rw (eq-eqb (st .opened) 0 none, e)

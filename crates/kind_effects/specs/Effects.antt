@@ -4,7 +4,7 @@
 --   judgeSaid   what an accepted one makes of the session, or its kind's own refusals
 -- Assumes nothing.
 use Prim.Native.Nat.{ℕ, _+_, _-_}
-use mathlib.Core.Bool.{true, not, _&&_}
+use mathlib.Core.Bool.{true, not}
 use mathlib.Core.List.{List}
 use lib.Dec.{eqb, ltb}
 use Rattle.prelude.specs.Choice.{_unless_then_}
@@ -18,7 +18,7 @@ use Rattle.session.specs.declared.Change.the-variants.{Opens, Closes}
 use Rattle.session.specs.declared.Verdict.{Verdict}
 use Rattle.session.specs.declared.Verdict.the-variants.{Refused, Taken, Wanted}
 use Rattle.session.specs.Session.{mostOpen, mostResults, partOf, keyOf}
-use Rattle.session.specs.Verdicts.{stands}
+use Rattle.session.specs.Verdicts.{stands, stillOpen}
 
 abbrev pub withPcr : Standing → Standing
 withPcr st =
@@ -59,10 +59,11 @@ judgePrr st parts part key =
     Refused answer.TooManyResults unless ltb (st .results) mostResults then
     Wanted (closes st (rank part parts)) key
 
--- MRR: 12
-unfoldable pub judgeMrr : Standing → Verdict
-judgeMrr st =
-    Refused answer.NotFinished unless (eqb (st .opened) 0 && st .pcr) then
+-- #101, MRR: 12 while a part is open, 20 while no PCR was accepted
+unfoldable pub judgeMrr : Standing → List ℕ → Verdict
+judgeMrr st parts =
+    Refused (stillOpen parts) unless eqb (st .opened) 0 then
+    Refused answer.NoPcr unless st .pcr then
     Taken (stands st)
 
 -- what an accepted kind does, or its own refusals
@@ -70,7 +71,7 @@ abbrev pub judgeSaid : Standing → List ℕ → Record → Verdict
 judgeSaid st parts (said.Pir p) = judgePir st parts (partOf (p .head) (p .site))
 judgeSaid st parts (said.Prr p) =
     judgePrr st parts (partOf (p .head) (p .site)) (keyOf (p .head) (p .site) (p .bin))
-judgeSaid st parts said.Mrr = judgeMrr st
+judgeSaid st parts said.Mrr = judgeMrr st parts
 judgeSaid st parts (said.Pcr p) = Taken (stands (withPcr st))
 judgeSaid st parts (said.Far f) = Taken (stands st)
 judgeSaid st parts said.Mir = Taken (stands st)

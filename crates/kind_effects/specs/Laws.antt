@@ -3,7 +3,7 @@
 --   ownChecks   the checks of a kind's own, as a list, of what is known of the stream
 -- Assumes nothing.
 use mathlib.Core.Path.{_≡_}
-use mathlib.Core.Bool.{Bool, not, _&&_}
+use mathlib.Core.Bool.{Bool, not}
 use mathlib.Core.List.{List, [], _∷_}
 use Prim.Native.Nat.{ℕ}
 use lib.Dec.{eqb, ltb}
@@ -16,14 +16,14 @@ use Rattle.session.specs.Session.{mostOpen, mostResults, partOf}
 use Rattle.session.specs.Verdicts.{verdictNumber}
 use Rattle.kind_effects.specs.Effects.{judgeSaid}
 
--- the checks of a kind's own: 9, 11; 10, 14; 12. Whether a part is open, how many are, how many part results were
+-- the checks of a kind's own: 9, 11; 10, 14; 12, 20. Whether a part is open, how many are, how many part results were
 -- accepted and whether a PCR was is all that they look at
 abbrev pub ownChecks : (ℕ → ℕ → Bool) → ℕ → ℕ → Bool → Record → List (Check ℕ)
 ownChecks isOpen opened results pcr (said.Pir p) =
     (not (isOpen (p .head) (p .site)) else 9) ∷ (ltb opened mostOpen else 11) ∷ []
 ownChecks isOpen opened results pcr (said.Prr p) =
     (isOpen (p .head) (p .site) else 10) ∷ (ltb results mostResults else 14) ∷ []
-ownChecks isOpen opened results pcr said.Mrr = ((eqb opened 0 && pcr) else 12) ∷ []
+ownChecks isOpen opened results pcr said.Mrr = (eqb opened 0 else 12) ∷ (pcr else 20) ∷ []
 ownChecks isOpen opened results pcr (said.Pcr p) = []
 ownChecks isOpen opened results pcr (said.Far f) = []
 ownChecks isOpen opened results pcr said.Mir = []

@@ -1,5 +1,5 @@
 // What each kind of record does to a session, once it is in its place and its body fits: document 01, "Order of
-// checks", Later records, 9 to 12 and 14.
+// checks", Later records, 9 to 12, 14 and 20.
 use answers::Answer;
 use bodies::Record;
 use rising::holds;
@@ -9,8 +9,9 @@ use session::Standing;
 use session::Verdict;
 ghost use mathlib.Core.Path.{_≡_};
 ghost use Prim.Native.Nat.{_≤_, _<_, _+_, _*_};
-ghost use lib.ListN.{take};
+ghost use lib.ListN.{length, take};
 ghost use Rattle.session.specs.Session.{LentParts, partOf, keyOf};
+ghost use Rattle.session.specs.Verdicts.{stillOpen};
 ghost use Rattle.kind_effects.specs.Effects.{withPcr, judgePir, judgePrr, judgeMrr, judgeSaid};
 
 const MOST_OPEN: usize = 32;
@@ -65,16 +66,26 @@ fn judge_prr(st: Standing, parts: &[u64], part: u64, key: u32) -> Verdict
     Verdict::Refused(Answer::PartNotOpen)
 }
 
-fn judge_mrr(st: Standing) -> Verdict
-    ensures { λ r. ⌜ r ≡ judgeMrr st ⌝ }
+// 12 names the smallest of the open parts. They rise, so it is the first.
+fn still_open(parts: &[u64]) -> Answer
+    requires { ⌜ 0 < length (now parts) ⌝ }
+    ensures { λ r. ⌜ r ≡ stillOpen (now (parts .entry)) ⌝ }
+{
+    let part = parts[0];
+    Answer::StillOpen((part / 256 % 256) as u8, (part % 256) as u8)
+}
+
+fn judge_mrr(st: Standing, parts: &[u64]) -> Verdict
+    requires { ⌜ LentParts st (now parts) ⌝ }
+    ensures { λ r. ⌜ r ≡ judgeMrr st (take (st .opened) (now (parts .entry))) ⌝ }
 {
     if st.opened != 0 {
-        return Verdict::Refused(Answer::NotFinished);
+        return Verdict::Refused(still_open(parts));
     }
     if st.pcr {
         Verdict::Taken(Change::Stands(st))
     } else {
-        Verdict::Refused(Answer::NotFinished)
+        Verdict::Refused(Answer::NoPcr)
     }
 }
 
@@ -100,7 +111,7 @@ pub fn judge_said(st: Standing, parts: &[u64], said: Record) -> Verdict
             part_of(p.head, p.site),
             key_of(p.head, p.site, p.bin),
         ),
-        Record::Mrr => judge_mrr(st),
+        Record::Mrr => judge_mrr(st, parts),
         Record::Pcr(_) => Verdict::Taken(Change::Stands(with_pcr(st))),
         Record::Far(_) => Verdict::Taken(same),
         Record::Mir => Verdict::Taken(same),

@@ -21,7 +21,7 @@ abbrev pub at : Standing → Place → Standing
 at st place =
     record { place = place; order = st .order; opened = st .opened; pcr = st .pcr; results = st .results }
 
--- Later records: 3, 6, 8, 7, then 9 or 10, 11, 12, 14
+-- Later records: 3, 6, 8, 7, then 9 or 10, 11, 12, 20, 14
 unfoldable pub judgeLater : Standing → List ℕ → List ℕ → Verdict
 judgeLater st parts rec =
     let kind = kindOf (recTyp rec) (recSub rec) in

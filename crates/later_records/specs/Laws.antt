@@ -20,7 +20,7 @@ use Rattle.session.specs.Verdicts.{verdictNumber}
 use Rattle.kind_effects.specs.Laws.{ownChecks}
 use Rattle.later_records.specs.Later.{judgeLater}
 
--- Later records: 3, 6, 8, 7, then 9 or 10, 11, 12, 14; room, 13, is the house's to judge, and last
+-- Later records: 3, 6, 8, 7, then 9 or 10, 11, 12, 20, 14; room, 13, is the house's to judge, and last
 abbrev pub laterChecks : Order → Place → (ℕ → ℕ → Bool) → ℕ → ℕ → Bool → List ℕ → List (Check ℕ)
 laterChecks order place isOpen opened results pcr rec =
     let kind = kindOf (recTyp rec) (recSub rec) in

@@ -10,7 +10,7 @@ use borrow.Author.Tests.{lt-ltb, le-ltb, eq-eqb, ne-eqb}
 use lib.Dec.{eqb, ltb}
 use Rattle.rising.proofs.Laws.{side}
 use Rattle.session.specs.Session.{partOf}
-use Rattle.session.specs.Laws.{PartSame, KeySame, KeyRises}
+use Rattle.session.specs.Laws.{PartSame, PartRises, PartGives, KeySame, KeyRises}
 
 -- of two numbers one is below the other, or they are the same
 pub three-ways : {C : Type 0} (a b : ℕ) → (a < b → C) → (a ≡ b → C) → (b < a → C) → C
@@ -57,6 +57,12 @@ module _ (span a b c d : ℕ) (low : b < span) (low′ : d < span) where
 pub part-same : PartSame
 part-same head site head′ site′ s s′ = high-same 256 head site head′ site′ s s′
 
+pub part-rises : PartRises
+part-rises head site head′ site′ s s′ = high-rises 256 head site head′ site′ s s′
+
+pub part-gives : PartGives
+part-gives part low = omega arith
+
 pub key-same : KeySame
 key-same head site bin head′ site′ bin′ s s′ b b′ =
     high-same 65_536 (partOf head site) bin (partOf head′ site′) bin′ b b′
@@ -65,7 +71,7 @@ key-same head site bin head′ site′ bin′ s s′ b b′ =
 pub key-rises : KeyRises
 key-rises head site bin head′ site′ bin′ s s′ b b′ =
     high-rises 65_536 (partOf head site) bin (partOf head′ site′) bin′ b b′
-    ∙ rw (high-rises 256 head site head′ site′ s s′, part-same head site head′ site′ s s′)
+    ∙ rw (part-rises head site head′ site′ s s′, part-same head site head′ site′ s s′)
     (regrouped (ltb head head′) (eqb head head′) (ltb site site′) (eqb site site′) (ltb bin bin′))
   where
     regrouped : (h e s f b : Bool) → ((h || (e && s)) || ((e && f) && b)) ≡ (h || (e && (s || (f && b))))

@@ -1,7 +1,7 @@
 -- Laws of a session by itself: what soundness tells, as the functions' proofs and the judgement's laws cite it.
 -- Assumes nothing.
-use mathlib.Core.Path.{_≡_, refl}
-use mathlib.Core.Bool.{true, false, _&&_}
+use mathlib.Core.Path.{_≡_, refl, sym, _∙_}
+use mathlib.Core.Bool.{true, false, _&&_, false≢true}
 use mathlib.Core.List.{List, [], _∷_}
 use Prim.Native.Nat.{ℕ, suc, _-_, _≤_, _<_}
 use native.Mathlib.Omega.{arith}
@@ -13,13 +13,13 @@ use Rattle.prelude.proofs.All.{all-at}
 use Rattle.order.specs.declared.Place.{Place}
 use Rattle.order.specs.declared.Place.the-variants.{Start, Header, Lot, Setup, Body, Ended}
 use Rattle.order.specs.Laws.{before, ended}
-use Rattle.rising.specs.Rising.{risingFrom, rising, allBelow}
-use Rattle.rising.proofs.Laws.{below-last}
+use Rattle.rising.specs.Rising.{risingFrom, rising, held, allBelow}
+use Rattle.rising.proofs.Laws.{side, rising-rest, rising-cons, held-low, below-last}
 use Rattle.session.specs.declared.Session.{Session}
 use Rattle.session.specs.declared.Standing.{Standing}
 use Rattle.session.specs.Session.{mostOpen, pastParts, isStart, nothingYet, standsRight, partsRight}
 use Rattle.session.specs.Session.{conditions, sound}
-use Rattle.session.specs.Laws.{BegunSound, SoundLent}
+use Rattle.session.specs.Laws.{BegunSound, SoundLent, SmallestHeld, SmallestLeast}
 
 -- ---- a sound session
 
@@ -120,6 +120,22 @@ sound-lent s long e =
 pub begun-sound : BegunSound
 unfolding sound partsRight rising risingFrom allBelow
 begun-sound = refl
+
+-- ---- the smallest part
+
+pub smallest-held : SmallestHeld
+unfolding held
+smallest-held [] some = absurd (omega arith)
+smallest-held (x ∷ xs) some = rw (eq-eqb x x refl)
+
+pub smallest-least : SmallestLeast
+unfolding rising held
+smallest-least [] part rises there = absurd (false≢true there)
+smallest-least (x ∷ xs) part rises there =
+    let from : risingFrom x (x ∷ xs) ≡ true = rising-cons x x xs (omega arith) (rising-rest 0 x xs rises) in
+    side part x
+    (λ (low : part < x). absurd (false≢true (sym (held-low x part (x ∷ xs) from low) ∙ there)))
+    (λ (high : x ≤ part). high)
 
 -- ---- what a place asks
 

@@ -3,11 +3,14 @@
 -- Assumes nothing.
 use mathlib.Core.Path.{_≡_}
 use mathlib.Core.Bool.{true, _&&_, _||_}
-use Prim.Native.Nat.{ℕ, _<_}
+use mathlib.Core.List.{List}
+use Prim.Native.Nat.{ℕ, _≤_, _<_}
 use lib.Dec.{eqb, ltb}
 use lib.ListN.{length}
+use Rattle.rising.specs.Rising.{rising, held}
 use Rattle.session.specs.declared.Session.{Session}
-use Rattle.session.specs.Session.{mostOpen, partOf, keyOf, begun, sound, LentParts}
+use Rattle.session.specs.Session.{mostOpen, partOf, partHead, partSite, smallest, keyOf, pastParts, begun}
+use Rattle.session.specs.Session.{sound, LentParts}
 
 -- a session that has followed nothing is sound
 abbrev pub BegunSound : Type 0
@@ -23,6 +26,22 @@ SoundLent = (s : Session) → length (s .parts) ≡ mostOpen → sound s ≡ tru
 abbrev pub PartSame : Type 0
 PartSame = (head site head′ site′ : ℕ) → site < 256 → site′ < 256
     → eqb (partOf head site) (partOf head′ site′) ≡ (eqb head head′ && eqb site site′)
+
+-- the first of parts that rise is one of them, and the smallest
+abbrev pub SmallestHeld : Type 0
+SmallestHeld = (parts : List ℕ) → 0 < length parts → held (smallest parts) parts ≡ true
+
+abbrev pub SmallestLeast : Type 0
+SmallestLeast = (parts : List ℕ) (part : ℕ) → rising parts ≡ true → held part parts ≡ true → smallest parts ≤ part
+
+-- parts rise as head, then site do
+abbrev pub PartRises : Type 0
+PartRises = (head site head′ site′ : ℕ) → site < 256 → site′ < 256
+    → ltb (partOf head site) (partOf head′ site′) ≡ (ltb head head′ || (eqb head head′ && ltb site site′))
+
+-- a part's number is that of its head and its site, and of no others
+abbrev pub PartGives : Type 0
+PartGives = (part : ℕ) → part < pastParts → partOf (partHead part) (partSite part) ≡ part
 
 -- .. and two keys exactly if the bin is too
 abbrev pub KeySame : Type 0

@@ -1,18 +1,20 @@
 -- A session. Document 01, "The house, its slots and its rows": an open slot without its rows.
 --
 --   partOf, keyOf   a part and a row's key as numbers that rise as head, then site, then bin do
+--   partHead, partSite   the head and the site of a part that is such a number
+--   smallest        the smallest of parts that rise
 --   partsOf         a session's open parts
 --   begun           a session that has followed nothing yet
 --   sound           document 01's conditions on a sound session, all of a list
 --   isStart         whether a stream has not begun, and Follows what it is once it has
 --   LentParts       what a session's parts are when they are lent
 -- Assumes nothing.
-use Prim.Native.Nat.{ℕ, _+_, _*_, _≤_}
+use Prim.Native.Nat.{ℕ, _+_, _*_, _/_, _%_, _≤_}
 use mathlib.Core.Path.{_≡_}
 use mathlib.Core.Bool.{Bool, true, false, not, _&&_}
 use mathlib.Core.List.{List, [], _∷_}
 use lib.Dec.{eqb, leb}
-use lib.ListN.{length, take, replicate}
+use lib.ListN.{length, getD, take, replicate}
 use Rattle.prelude.specs.All.{all}
 use Rattle.numbers.specs.declared.Order.{Order}
 use Rattle.numbers.specs.declared.Order.the-variants.{HighFirst}
@@ -34,6 +36,13 @@ mostResults = 4_294_967_295
 abbrev pub partOf : ℕ → ℕ → ℕ
 partOf head site = head * 256 + site
 
+-- each of them is a byte
+abbrev pub partHead : ℕ → ℕ
+partHead part = part / 256 % 256
+
+abbrev pub partSite : ℕ → ℕ
+partSite part = part % 256
+
 abbrev pub keyOf : ℕ → ℕ → ℕ → ℕ
 keyOf head site bin = partOf head site * 65536 + bin
 
@@ -43,6 +52,10 @@ pastParts = partOf allSites 0
 
 abbrev pub partsOf : Session → List ℕ
 partsOf s = take (s .standing .opened) (s .parts)
+
+-- the first of them
+abbrev pub smallest : List ℕ → ℕ
+smallest parts = getD parts 0 0
 
 abbrev pub isStart : Place → Bool
 isStart Start = true

@@ -1,50 +1,52 @@
 -- What a record may do to a session. Document 01, "Order of checks", Deliver: the record.
 --
 --   stands          the change to a standing alone
---   verdictNumber   the number of a verdict
---   byItself        the answers that a record by itself may be refused with
+--   stillOpen       answer 12, which names the smallest of the open parts
+--   verdictAnswer   the answer of a verdict, and verdictNumber its number
+--   ByItself        what a record by itself may be refused with, where these parts are open: its number is one of
+--                   ownNumber, and it carries what carried says
 -- Assumes nothing.
 use Prim.Native.Nat.{ℕ}
-use mathlib.Core.Bool.{Bool, true, false}
+use mathlib.Core.Path.{_≡_}
+use mathlib.Core.Bool.{Bool, true, cond, _&&_, _||_}
+use mathlib.Core.List.{List}
+use lib.Dec.{eqb, leb}
 use Rattle.answers.specs.declared.Answer.{Answer}
 use Rattle.answers.specs.declared.Answer.the-variants as answer
-use Rattle.answers.specs.Numbers.{numberOf}
+use Rattle.answers.specs.declared.Values.{Values}
+use Rattle.answers.specs.declared.Values.the-variants.{Nothing, Part}
+use Rattle.answers.specs.Numbers.{numberOf, valuesOf}
 use Rattle.session.specs.declared.Standing.{Standing}
 use Rattle.session.specs.declared.Change.{Change}
 use Rattle.session.specs.declared.Change.the-variants.{Stands}
 use Rattle.session.specs.declared.Verdict.{Verdict}
 use Rattle.session.specs.declared.Verdict.the-variants.{Refused, Taken, Wanted}
+use Rattle.session.specs.Session.{partHead, partSite, smallest}
 
 -- most records move the standing, if anything, and no part
 abbrev pub stands : Standing → Change
 stands st = Stands st
 
--- a part result that passes all these is still to be judged for room
-abbrev pub verdictNumber : Verdict → ℕ
-verdictNumber (Refused a) = numberOf a
-verdictNumber (Taken change) = 0
-verdictNumber (Wanted change key) = 0
+-- #101, 12: the smallest head and site of the open parts
+abbrev pub stillOpen : List ℕ → Answer
+stillOpen parts = answer.StillOpen (partHead (smallest parts)) (partSite (smallest parts))
 
--- 3 to 12, and 14: room, 13, is the house's to judge, and the rest are not about a record
-abbrev pub byItself : Answer → Bool
-byItself answer.NotOneRecord = true
-byItself answer.UnknownOrder = true
-byItself answer.WrongVersion = true
-byItself answer.UnknownKind = true
-byItself answer.BodyMisfit = true
-byItself answer.OutOfPlace = true
-byItself answer.PartOpen = true
-byItself answer.PartNotOpen = true
-byItself answer.TooManyParts = true
-byItself answer.NotFinished = true
-byItself answer.TooManyResults = true
-byItself answer.Done = false
-byItself answer.NoSuchSlot = false
-byItself answer.SlotTaken = false
-byItself answer.SlotClosed = false
-byItself answer.NoRoom = false
-byItself answer.NotSound = false
-byItself answer.FloorTooHigh = false
-byItself answer.OutputTooShort = false
-byItself answer.NotACountLine = false
-byItself answer.NameNotText = false
+-- a part result that passes all these is still to be judged for room
+abbrev pub verdictAnswer : Verdict → Answer
+verdictAnswer (Refused a) = a
+verdictAnswer (Taken change) = answer.Done
+verdictAnswer (Wanted change key) = answer.Done
+
+abbrev pub verdictNumber : Verdict → ℕ
+verdictNumber v = numberOf (verdictAnswer v)
+
+-- 3 to 12, 14 and 20: room, 13, is the house's to judge, and the rest are not about a record
+abbrev pub ownNumber : ℕ → Bool
+ownNumber n = (leb 3 n && leb n 12) || (eqb n 14 || eqb n 20)
+
+-- #101: 12 carries the smallest head and site of the open parts, and no other number carries anything
+abbrev pub carried : ℕ → List ℕ → Values
+carried n parts = cond (eqb n 12) (Part (partHead (smallest parts)) (partSite (smallest parts))) Nothing
+
+abbrev pub ByItself : List ℕ → Answer → Type 0
+ByItself parts a = (ownNumber (numberOf a) ≡ true) × (valuesOf a ≡ carried (numberOf a) parts)

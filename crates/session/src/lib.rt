@@ -8,7 +8,7 @@ use numbers::Order;
 use order::Place;
 ghost use mathlib.Core.Path.{_≡_};
 ghost use Rattle.session.specs.Session.{isStart, begun};
-ghost use Rattle.session.specs.Verdicts.{verdictNumber};
+ghost use Rattle.session.specs.Verdicts.{verdictAnswer};
 pub use sound::is_sound;
 pub use sound::nothing_yet;
 pub use sound::parts_right;
@@ -65,14 +65,14 @@ pub fn is_start(place: Place) -> bool
     }
 }
 
-// The number of a verdict. A part result that passes all checks but the last is still to be judged for room.
-pub fn verdict_number(verdict: Verdict) -> u8
-    ensures { λ r. ⌜ r ≡ verdictNumber verdict ⌝ }
+// The answer of a verdict. A part result that passes all checks but the last is still to be judged for room.
+pub fn verdict_answer(verdict: Verdict) -> Answer
+    ensures { λ r. ⌜ r ≡ verdictAnswer verdict ⌝ }
 {
     match verdict {
-        Verdict::Refused(answer) => answers::number(answer),
-        Verdict::Taken(_) => 0,
-        Verdict::Wanted(_, _) => 0,
+        Verdict::Refused(answer) => answer,
+        Verdict::Taken(_) => Answer::Done,
+        Verdict::Wanted(_, _) => Answer::Done,
     }
 }
 

@@ -9,6 +9,9 @@ use borrow.Author.Tests.{le-leb, ltb-true, ltb-false}
 use lib.Dec.{ltb}
 use lib.ListN.{length, getD, take, drop, length-append}
 use Rattle.answers.specs.declared.Answer.{Answer}
+use Rattle.answers.specs.declared.Values.{Values}
+use Rattle.answers.specs.declared.Values.the-variants.{Nothing, Part}
+use Rattle.answers.specs.Numbers.{OfBytes}
 use Rattle.house.specs.declared.Row.{Row}
 use Rattle.output.specs.declared.Written.{Written}
 use Rattle.output.specs.declared.Written.the-variants as written
@@ -20,8 +23,8 @@ use Rattle.line_layouts.specs.declared.Layout.the-variants as layout
 use Rattle.line_layouts.specs.Columns.{separator}
 use Rattle.line_layouts.specs.Entries.{noField, meaningOf, Within, AllWithin}
 use Rattle.line_layouts.specs.Layouts.{laid, laidOut}
-use Rattle.tally_lines.specs.Lines.{rowLine, refusedLine, tooLongLine, unfinishedLine}
-use Rattle.tally_lines.specs.Writing.{lineOf, mostLine, LaidAt, RowLow}
+use Rattle.tally_lines.specs.Lines.{rowLine, ending, refusal, tooLongLine, unfinishedLine}
+use Rattle.tally_lines.specs.Writing.{lineOf, mostLine, mostRefused, LaidAt, RowLow}
 
 -- ---- how long a number is
 
@@ -45,9 +48,20 @@ digits-long n h =
 -- ---- how long a line is
 
 module _ (k : ℕ) (fits : k < 18_446_744_073_709_551_616) where
-  pub refused-most : (n : ℕ) → n < 256 → length (refusedLine n k) ≤ 64
-  refused-most n low =
-      simp length-append (omega (arith, digits-long k fits, digits-most n (omega (arith, low))))
+  ending-most : (v : Values) → OfBytes v → length (ending v) ≤ 34
+  ending-most Nothing low = omega arith
+  ending-most (Part head site) low =
+      simp length-append
+      (omega (
+        arith,
+        digits-most head (omega (arith, low .0)),
+        digits-most site (omega (arith, low .1)),
+      ))
+
+  pub refused-most : (n : ℕ) (v : Values) → n < 256 → OfBytes v → length (refusal n v k) ≤ mostRefused
+  refused-most n v low bytes =
+      simp length-append
+      (omega (arith, digits-long k fits, digits-most n (omega (arith, low)), ending-most v bytes))
 
   pub too-long-most : length (tooLongLine k) ≤ 64
   too-long-most = simp length-append (omega (arith, digits-long k fits))

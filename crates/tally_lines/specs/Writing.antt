@@ -1,7 +1,7 @@
 -- How the lines that end a stream are written.
 --
 --   fieldOf, lineOf   a row's HBR line as `line_layouts` holds it
---   mostLine          bytes that no such line passes
+--   mostLine          bytes that no such line passes, and mostRefused, that no refusal's line does
 --   LaidAt            what a writer that lays bytes at an offset returns and leaves
 --   RowLow            a row's numbers, of four bytes at most
 -- Assumes nothing.
@@ -37,6 +37,10 @@ lineOf r =
 -- four bytes, and four numbers of at most ten digits, each with the byte behind it
 abbrev pub mostLine : ℕ
 mostLine = 48
+
+-- 32 bytes of words and LF, and a number of twenty digits at most, and three of ten
+abbrev pub mostRefused : ℕ
+mostRefused = 83
 
 pub record LaidAt (bytes old : List ℕ) (at r : ℕ) (new : List ℕ) : Type 0 where
   pub count : r ≡ length bytes

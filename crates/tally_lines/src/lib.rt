@@ -1,5 +1,7 @@
 // The lines that end a stream: document 01, "Tally program". Each writer puts its bytes at the start of the part that
 // it is lent; a row's line goes to an offset.
+use answers::Answer;
+use answers::Values;
 use house::Row;
 use line_laying::place;
 use line_layouts::Field;
@@ -11,14 +13,14 @@ use line_layouts::columns::SEPARATOR;
 use output::Written;
 use output::put_byte;
 use output::put_part;
-ghost use mathlib.Core.List.{_++_};
 ghost use Prim.Native.Nat.{_+_, _≤_};
 ghost use lib.ListN.{length};
+ghost use Rattle.answers.specs.Numbers.{OfBytes};
 ghost use Rattle.output.specs.Placed.{Put, Room};
 ghost use Rattle.digits.specs.Digits.{digits};
-ghost use Rattle.tally_lines.specs.Lines.{lastNumber, recordNumber, refusedLine, tooLongLine, unfinishedLine};
-ghost use Rattle.tally_lines.specs.Lines.{rowLine};
-ghost use Rattle.tally_lines.specs.Writing.{mostLine, FieldOf, RowLined, LaidAt};
+ghost use Rattle.tally_lines.specs.Lines.{numbered, said, ending, atEnding, refusal, refusedLine, tooLongLine};
+ghost use Rattle.tally_lines.specs.Lines.{unfinishedLine, rowLine};
+ghost use Rattle.tally_lines.specs.Writing.{mostLine, mostRefused, FieldOf, RowLined, LaidAt};
 
 // A number of any width in decimal: the digits of the quotient, then the last one.
 fn put_number(out: &mut [u8], n: u64) -> usize
@@ -33,46 +35,68 @@ fn put_number(out: &mut [u8], n: u64) -> usize
     at + 1
 }
 
-// A number, and the end of its line.
-fn put_last(out: &mut [u8], n: u64) -> usize
-    requires { ⌜ Room (lastNumber n) (now out) ⌝ }
-    ensures { λ r. ⌜ Put (lastNumber n) (now (out .entry)) r (now (out .exit)) ⌝ }
+// Words, then a number.
+fn put_numbered(out: &mut [u8], words: &[u8], n: u64) -> usize
+    requires { ⌜ Room (numbered (now words) n) (now out) ⌝ }
+    ensures { λ r. ⌜ Put (numbered (now (words .entry)) n) (now (out .entry)) r (now (out .exit)) ⌝ }
 {
-    let k = put_number(out, n);
+    let k = put_part(out, words, 0, words.len());
+    k + put_number(&mut out[k..], n)
+}
+
+// .. and the end of the line.
+fn put_said(out: &mut [u8], words: &[u8], n: u64) -> usize
+    requires { ⌜ Room (said (now words) n) (now out) ⌝ }
+    ensures { λ r. ⌜ Put (said (now (words .entry)) n) (now (out .entry)) r (now (out .exit)) ⌝ }
+{
+    let k = put_numbered(out, words, n);
     k + put_byte(&mut out[k..], b'\n')
 }
 
-// Words, then a number, and the end of the line.
-fn put_said(out: &mut [u8], words: &[u8], n: u64) -> usize
-    requires { ⌜ Room (now words ++ lastNumber n) (now out) ⌝ }
-    ensures { λ r. ⌜ Put (now (words .entry) ++ lastNumber n) (now (out .entry)) r (now (out .exit)) ⌝ }
+// `, head H site S`
+fn put_open_part(out: &mut [u8], head: u8, site: u8) -> usize
+    requires { ⌜ Room (ending (Values.Part head site)) (now out) ⌝ }
+    ensures { λ r. ⌜ Put (ending (Values.Part head site)) (now (out .entry)) r (now (out .exit)) ⌝ }
 {
-    let k = put_part(out, words, 0, words.len());
-    k + put_last(&mut out[k..], n)
+    let k = put_numbered(out, b", head ", head as u64);
+    k + put_said(&mut out[k..], b" site ", site as u64)
 }
 
-fn put_record(out: &mut [u8], k: u64) -> usize
-    requires { ⌜ Room (recordNumber k) (now out) ⌝ }
-    ensures { λ r. ⌜ Put (recordNumber k) (now (out .entry)) r (now (out .exit)) ⌝ }
+// How a refusal ends: with the part that it names, if it names one.
+fn put_ending(out: &mut [u8], values: Values) -> usize
+    requires { ⌜ Room (ending values) (now out) ⌝ }
+    ensures { λ r. ⌜ Put (ending values) (now (out .entry)) r (now (out .exit)) ⌝ }
 {
-    put_said(out, b" at record ", k)
+    match values {
+        Values::Nothing => put_byte(out, b'\n'),
+        Values::Part(head, site) => put_open_part(out, head, site),
+    }
 }
 
-fn put_refusal(out: &mut [u8], number: u8, k: u64) -> usize
-    requires { ⌜ Room (digits number ++ recordNumber k) (now out) ⌝ }
-    ensures { λ r. ⌜ Put (digits number ++ recordNumber k) (now (out .entry)) r (now (out .exit)) ⌝ }
+fn put_record(out: &mut [u8], k: u64, values: Values) -> usize
+    requires { ⌜ Room (atEnding k values) (now out) ⌝ }
+    ensures { λ r. ⌜ Put (atEnding k values) (now (out .entry)) r (now (out .exit)) ⌝ }
 {
-    let n = digits::put_digits(out, number as u32);
-    n + put_record(&mut out[n..], k)
+    let n = put_numbered(out, b" at record ", k);
+    n + put_ending(&mut out[n..], values)
 }
 
-// `refused N at record K`
-pub fn put_refused(out: &mut [u8], number: u8, k: u64) -> usize
-    requires { ⌜ Room (refusedLine number k) (now out) ⌝ }
-    ensures { λ r. ⌜ Put (refusedLine number k) (now (out .entry)) r (now (out .exit)) ⌝ }
+fn put_refusal(out: &mut [u8], number: u8, values: Values, k: u64) -> usize
+    requires { ⌜ (mostRefused ≤ length (now out)) × OfBytes values ⌝ }
+    ensures { λ r. ⌜ Put (refusal number values k) (now (out .entry)) r (now (out .exit)) ⌝ }
 {
-    let n = put_part(out, b"refused ", 0, 8);
-    n + put_refusal(&mut out[n..], number, k)
+    let n = put_numbered(out, b"refused ", number as u64);
+    n + put_record(&mut out[n..], k, values)
+}
+
+// `refused N at record K`, and of 12 `, head H site S` behind it
+pub fn put_refused(out: &mut [u8], answer: Answer, k: u64) -> usize
+    requires { ⌜ mostRefused ≤ length (now out) ⌝ }
+    ensures { λ r. ⌜ Put (refusedLine answer k) (now (out .entry)) r (now (out .exit)) ⌝ }
+{
+    let saying = answers::said(answer);
+    let values = saying.1;
+    put_refusal(out, saying.0, values, k)
 }
 
 // `too long at record K`

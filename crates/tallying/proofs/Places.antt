@@ -96,7 +96,7 @@ module _ (s : Session) (rec : List ℕ) where
   unfolding changed
   first-leads starts other =
       subst (Leads (orderIn rec) s rec) (sym (judged-first (s .standing) (partsOf s) rec starts))
-      (first-cases (Leads (orderIn rec) s rec) (λ a own. tt) (s .standing) rec
+      (first-cases (partsOf s) (Leads (orderIn rec) s rec) (λ a own. tt) (s .standing) rec
       (λ order is. record { follows = (refl, sym is); ended = sym other }))
 
   pub later-leads : isStart (s .standing .place) ≡ false → Leads (s .standing .order) s rec (verdictOn s rec)
@@ -105,7 +105,7 @@ module _ (s : Session) (rec : List ℕ) where
       let st = s .standing in
       let P = Leads (st .order) s rec in
       subst P (sym (judged-later st (partsOf s) rec further))
-      (later-cases P (λ a own. tt) st (partsOf s) rec (λ k q r named to fits.
+      (later-cases (partsOf s) P (λ a own. tt) st rec (λ k q r named to fits.
       let next : Stands (st .order) rec (at st q) = record {
         follows = (past-start q (never-start (st .place) q k to), refl);
         ended = ended-mrr (st .place) q k to ∙ ap isMrr (sym named);
@@ -115,6 +115,6 @@ module _ (s : Session) (rec : List ℕ) where
         follows = (ap isStart is ∙ next .follows .0, same);
         ended = ap isEnded is ∙ next .ended;
       } in
-      said-cases P (λ a own. tt) (at st q) (partsOf s) r (λ quieted. next)
+      said-cases (partsOf s) P (λ a own. tt) (at st q) r (λ quieted. next)
       (λ p is. moved (withPcr (at st q)) refl refl) (λ p is new few. moved (withPart (at st q)) refl refl)
       (λ p is there few. moved (withResult (at st q)) refl refl) (λ is done. next)))

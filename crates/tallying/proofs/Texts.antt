@@ -9,8 +9,6 @@ use native.Mathlib.Omega.{arith}
 use lib.ListN.{length, take, drop, length-append, length-take}
 use lib.Seq.{take-append-seam, drop-append-add, drop-drop}
 use Rattle.answers.specs.declared.Answer.{Answer}
-use Rattle.answers.specs.declared.Answer.the-variants as answer
-use Rattle.answers.specs.Numbers.{numberOf}
 use Rattle.house.specs.declared.House.{House}
 use Rattle.house.specs.declared.Row.{Row}
 use Rattle.house.specs.Report.{rowAt}
@@ -70,39 +68,15 @@ lined-put h old i new at l is = rw (← is) (record { count = l .count; laid = l
 -- ---- bytes left over
 
 pub ended-left : (h : House) (k : ℕ) (bytes : List ℕ) → 0 < length bytes
-    → endedWith h k bytes ≡ refusedLine (numberOf (leftOver h bytes)) (k + 1)
+    → endedWith h k bytes ≡ refusedLine (leftOver h bytes) (k + 1)
 ended-left h k [] some = absurd (omega arith)
 ended-left h k (b ∷ bs) some = refl
 
--- a refusal's number is one byte
-pub number-low : (a : Answer) → numberOf a < 256
-number-low answer.Done = omega arith
-number-low answer.NoSuchSlot = omega arith
-number-low answer.SlotTaken = omega arith
-number-low answer.SlotClosed = omega arith
-number-low answer.NotOneRecord = omega arith
-number-low answer.UnknownOrder = omega arith
-number-low answer.WrongVersion = omega arith
-number-low answer.UnknownKind = omega arith
-number-low answer.BodyMisfit = omega arith
-number-low answer.OutOfPlace = omega arith
-number-low answer.PartOpen = omega arith
-number-low answer.PartNotOpen = omega arith
-number-low answer.TooManyParts = omega arith
-number-low answer.NotFinished = omega arith
-number-low answer.NoRoom = omega arith
-number-low answer.TooManyResults = omega arith
-number-low answer.NotSound = omega arith
-number-low answer.FloorTooHigh = omega arith
-number-low answer.OutputTooShort = omega arith
-number-low answer.NotACountLine = omega arith
-number-low answer.NameNotText = omega arith
-
 module _ (h : House) (k held : ℕ) (buf : List ℕ) where
-  pub put-left : 0 < held → held ≤ length buf → (n : ℕ) → n ≡ numberOf (leftOver h (take (held - 0) buf))
-      → refusedLine n (k + 1) ≡ endedWith h k (take held buf)
-  put-left some there n is =
-      ap (λ (m : ℕ). refusedLine m (k + 1)) (is ∙ ap (λ (l : List ℕ). numberOf (leftOver h l)) (front-part held buf))
+  pub put-left : 0 < held → held ≤ length buf → (a : Answer) → a ≡ leftOver h (take (held - 0) buf)
+      → refusedLine a (k + 1) ≡ endedWith h k (take held buf)
+  put-left some there a is =
+      ap (λ (x : Answer). refusedLine x (k + 1)) (is ∙ ap (leftOver h) (front-part held buf))
       ∙ sym (ended-left h k (take held buf) (omega (arith, length-take held buf, some, there)))
 
   none-held : held ≤ 0 → take held buf ≡ []
@@ -116,9 +90,8 @@ module _ (h : House) (k held : ℕ) (buf : List ℕ) where
 -- ---- what stopped a stream
 
 module _ (why : Stop) (k : ℕ) where
-  pub stopped-refused : (a : Answer) → why ≡ Refused a → (n : ℕ) → n ≡ numberOf a
-      → refusedLine n k ≡ stoppedLine why k
-  stopped-refused a e n is = rw (e, is)
+  pub stopped-refused : (a : Answer) → why ≡ Refused a → refusedLine a k ≡ stoppedLine why k
+  stopped-refused a e = rw e
 
   pub stopped-long : why ≡ TooLong → tooLongLine k ≡ stoppedLine why k
   stopped-long e = rw e

@@ -26,8 +26,8 @@ use Rattle.session.specs.declared.Standing.{Standing}
 use Rattle.session.specs.declared.Verdict.{Verdict}
 use Rattle.session.specs.declared.Verdict.the-variants as verdict
 use Rattle.session.specs.declared.Verdict.the-variants.{Taken, Wanted}
-use Rattle.session.specs.Session.{isStart}
-use Rattle.session.specs.Verdicts.{byItself}
+use Rattle.session.specs.Session.{partsOf, isStart}
+use Rattle.session.specs.Verdicts.{ByItself}
 use Rattle.first_record.specs.First.{orderIn}
 use Rattle.first_record.proofs.Checks.{first-number}
 use Rattle.judging.specs.Judge.{verdictOn}
@@ -84,7 +84,7 @@ lines-listed h (suc n) =
 
 abbrev endOn : House → ℕ → Bool → Behind → List ℕ
 endOn h k last Long = tooLongLine (k + 1)
-endOn h k last (Left (b ∷ bs)) = refusedLine 3 (k + 1)
+endOn h k last (Left (b ∷ bs)) = refusedLine NotOneRecord (k + 1)
 endOn h k last (Left []) = cond last (linesOf (rowsIn (reply h (Report 0 rowCount)))) (unfinishedLine k)
 
 abbrev mrrOn : Bool → List (List ℕ) → Bool
@@ -92,7 +92,7 @@ mrrOn last [] = last
 mrrOn last (r ∷ rs) = mrrOn (isMrr (kindIn r)) rs
 
 abbrev textOn : Refusal → House → ℕ → Bool → Cut → List ℕ
-textOn (At n place) h k last c = refusedLine n place
+textOn (At a place) h k last c = refusedLine a place
 textOn None h k last c =
     endOn (calls.reached h (map (Deliver 0) (c .records))) (k + length (c .records)) (mrrOn last (c .records))
     (c .behind)
@@ -118,8 +118,8 @@ module _ (h : House) (k : ℕ) (last : Bool) where
       go true = sym (lines-listed h (reported h 0 rowCount .rows))
       go false = refl
   waits-told (b ∷ bs) begun is =
-      ap (λ (t : Bool). refusedLine (numberOf (cond t (deliver h 0 (b ∷ bs) .answer) NotOneRecord)) (k + 1)) begun
-      ∙ ap (λ (j : ℕ). refusedLine 3 (j + 1)) (sym none-yet)
+      ap (λ (t : Bool). refusedLine (cond t (deliver h 0 (b ∷ bs) .answer) NotOneRecord) (k + 1)) begun
+      ∙ ap (λ (j : ℕ). refusedLine NotOneRecord (j + 1)) (sym none-yet)
 
   long-told : (r rest : List ℕ) → text (Stops (reached h k) r TooLong rest) ≡ toldOn h k last (noRecord Long)
   unfolding ended
@@ -135,10 +135,10 @@ module _ (h : House) (k : ℕ) (last : Bool) where
     abbrev by : Bool → Refusal
     by t =
         cond t (firstRefusal (k + 1 + 1) (history (next .house) (map (Deliver 0) (c .records))))
-        (At (numberOf (next .answer)) (k + 1))
+        (At (next .answer) (k + 1))
 
     further : (r : Refusal) → textOn r h k last (first rec c) ≡ textOn r (next .house) (k + 1) (isMrr (kindIn rec)) c
-    further (At n place) = refl
+    further (At a place) = refl
     further None =
         let more : k + length (rec ∷ c .records) ≡ k + 1 + length (c .records) = omega arith in
         ap
@@ -153,7 +153,7 @@ module _ (h : House) (k : ℕ) (last : Bool) where
         ∙ further (firstRefusal (k + 1 + 1) (history (next .house) (map (Deliver 0) (c .records))))
 
     refused-told : eqb (numberOf (next .answer)) 0 ≡ false
-        → toldOn h k last (first rec c) ≡ refusedLine (numberOf (next .answer)) (k + 1)
+        → toldOn h k last (first rec c) ≡ refusedLine (next .answer) (k + 1)
     refused-told wrong = ap (λ (t : Bool). textOn (by t) h k last (first rec c)) wrong
 
     heard-told : (rest : List ℕ)
@@ -204,12 +204,12 @@ module _ (h : House) (good : Good h) (rec : List ℕ) (low : Bytes rec) where
       go v (roomFor h 0 v) (λ a is. judged-refusal s rec a is) leads (sym (ap numberOf (own .answer)) ∙ done)
       (own .stands)
     where
-      go : (u : Verdict) (room : Bool) → ((a : Answer) → u ≡ verdict.Refused a → byItself a ≡ true)
+      go : (u : Verdict) (room : Bool) → ((a : Answer) → u ≡ verdict.Refused a → ByItself (partsOf s) a)
           → Leads order s rec u → numberOf (answerBy u room) ≡ 0
           → slotAt (deliver h 0 rec .house) 0 ≡ nextSlot (slotAt h 0) u room
           → Stands order rec (standing (deliver h 0 rec .house))
       go (verdict.Refused a) room own leads zero-number is =
-          absurd (false≢true (sym (own-number a (own a refl)) ∙ ap (λ (n : ℕ). eqb n 0) zero-number))
+          absurd (false≢true (sym (own-number a (own a refl .0)) ∙ ap (λ (n : ℕ). eqb n 0) zero-number))
       go (Taken change) room own leads zero-number is =
           subst (λ (x : Slot). Stands order rec (x .session .standing)) (sym is) leads
       go (Wanted change key) true own leads zero-number is =
@@ -356,7 +356,7 @@ record IsFar (rec : List ℕ) : Type 0 where
 
 is-far : (rec : List ℕ) → numberOf (deliver opened 0 rec .answer) ≡ 0 → IsFar rec
 is-far rec done =
-    let number = sym (first-answer opened rec (opened-good .fine) (opened-good .opened) starts
+    let number = sym (ap numberOf (first-answer opened rec (opened-good .fine) (opened-good .opened) starts)
     ∙ first-number (slotAt opened 0 .session .standing) rec) ∙ done in
     let headed = holds (leb header (length rec)) _ 2 number in
     let kind = holds (eqb (recTyp rec) 0 && eqb (recSub rec) 10) _ 7 (headed .1) in
@@ -398,7 +398,7 @@ module _ (bytes : List ℕ) (low : Bytes bytes) where
       go : (l : List ℕ) → length l < firstLength → text (Waits from l) ≡ toldOn opened 0 false (cutShort l)
       go [] few = ap (closing opened 0) not-ended
       go (b ∷ bs) few =
-          ap (λ (t : Bool). refusedLine (numberOf (cond t (deliver opened 0 (b ∷ bs) .answer) NotOneRecord)) 1) starts
+          ap (λ (t : Bool). refusedLine (cond t (deliver opened 0 (b ∷ bs) .answer) NotOneRecord) 1) starts
           ∙ sym
           (refused-told opened 0 false (b ∷ bs) (noRecord (Left []))
           (short-refused (b ∷ bs) few (eqb (numberOf (deliver opened 0 (b ∷ bs) .answer)) 0) refl))
@@ -457,11 +457,11 @@ opening c =
     let es = history opened (map (Deliver 0) (c .records)) in
     go (firstRefusal 1 es)
     ∙ ap
-    (λ (t : Bool). textBy (cond t (firstRefusal 1 es) (At (numberOf (openSlot fresh 0 rowCount .answer)) 0)) c)
+    (λ (t : Bool). textBy (cond t (firstRefusal 1 es) (At (openSlot fresh 0 rowCount .answer) 0)) c)
     (sym opened-done)
   where
     go : (r : Refusal) → textOn r opened 0 false c ≡ textBy r c
-    go (At n place) = refl
+    go (At a place) = refl
     go None =
         let rs = c .records in
         let there = calls.reached opened (map (Deliver 0) rs) in

@@ -8,7 +8,6 @@
 use Prim.Native.Nat.{ℕ, zero, suc, _+_}
 use mathlib.Core.Bool.{Bool, true, false, cond}
 use mathlib.Core.List.{List, [], _∷_, _++_}
-use Rattle.answers.specs.Numbers.{numberOf}
 use Rattle.answers.specs.declared.Answer.{Answer}
 use Rattle.answers.specs.declared.Answer.the-variants.{NotOneRecord}
 use Rattle.order.specs.Laws.{ended as isEnded}
@@ -43,11 +42,11 @@ closing h k false = unfinishedLine k
 
 abbrev pub endedWith : House → ℕ → List ℕ → List ℕ
 endedWith h k [] = closing h k (isEnded (standing h .place))
-endedWith h k (b ∷ bs) = refusedLine (numberOf (leftOver h (b ∷ bs))) (k + 1)
+endedWith h k (b ∷ bs) = refusedLine (leftOver h (b ∷ bs)) (k + 1)
 
 -- what stopped a stream, at its record k
 abbrev pub stoppedLine : Stop → ℕ → List ℕ
-stoppedLine (Refused a) k = refusedLine (numberOf a) k
+stoppedLine (Refused a) k = refusedLine a k
 stoppedLine TooLong k = tooLongLine k
 
 -- K from 1: the record behind those accepted

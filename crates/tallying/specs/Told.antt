@@ -12,7 +12,8 @@ use mathlib.Core.List.{List, [], _∷_, _++_, map}
 use lib.Dec.{leb}
 use lib.ListN.{length, take, drop}
 use Rattle.prelude.specs.Choice.{_unless_then_}
-use Rattle.answers.specs.Numbers.{numberOf}
+use Rattle.answers.specs.declared.Answer.{Answer}
+use Rattle.answers.specs.declared.Answer.the-variants.{NotOneRecord}
 use Rattle.numbers.specs.declared.Order.{Order}
 use Rattle.kinds.specs.declared.Kind.{Kind}
 use Rattle.kinds.specs.declared.Kind.the-variants.{Mrr}
@@ -77,12 +78,12 @@ callsOf records = Open 0 rowCount ∷ map (Deliver 0) records
 
 pub data Refusal : Type 0 where
   None : Refusal
-  At : ℕ → ℕ → Refusal
+  At : Answer → ℕ → Refusal
 
--- the number and the place of the first answer that is a refusal
+-- the first answer that is a refusal, and its place
 abbrev pub firstRefusal : ℕ → List Said → Refusal
 firstRefusal place [] = None
-firstRefusal place (e ∷ es) = cond (isDone e) (firstRefusal (place + 1) es) (At (numberOf (answerOf (e .reply))) place)
+firstRefusal place (e ∷ es) = cond (isDone e) (firstRefusal (place + 1) es) (At (answerOf (e .reply)) place)
 
 -- the rows that a report lists
 abbrev pub rowsIn : Reply → List Row
@@ -108,13 +109,13 @@ linesOf (r ∷ rs) = rowLine r ++ linesOf rs
 -- all records are accepted: bytes left over are N=3; with none, the rows after an MRR at the end, else unfinished
 abbrev pub endOf : List (List ℕ) → Behind → List ℕ
 endOf records Long = tooLongLine (length records + 1)
-endOf records (Left (b ∷ bs)) = refusedLine 3 (length records + 1)
+endOf records (Left (b ∷ bs)) = refusedLine NotOneRecord (length records + 1)
 endOf records (Left []) =
     cond (mrrLast records) (linesOf (rowsIn (reply (reached fresh (callsOf records)) (Report 0 rowCount))))
     (unfinishedLine (length records))
 
 abbrev pub textBy : Refusal → Cut → List ℕ
-textBy (At n k) c = refusedLine n k
+textBy (At a k) c = refusedLine a k
 textBy None c = endOf (c .records) (c .behind)
 
 -- the opening is call 0, so that records count from 1

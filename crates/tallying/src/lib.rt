@@ -1,6 +1,7 @@
 // The text of one whole stream, written at its end: document 01, "Tally program". Crate `following` has the stream, chunk
 // by chunk. What is promised is a function of all bytes: specs/Text.antt; specs/Told.antt says it of the calls and their
 // answers.
+use answers::Answer;
 use first_record::judge_first;
 use following::Stream;
 use house::House;
@@ -9,7 +10,7 @@ use order::Place;
 use reports::list_rows;
 use session::Session;
 use session::is_start;
-use session::verdict_number;
+use session::verdict_answer;
 use soundness::is_sound;
 use tally_lines::put_refused;
 use tally_lines::put_row;
@@ -20,7 +21,6 @@ use walking::Stop;
 ghost use mathlib.Core.Path.{_≡_};
 ghost use Prim.Native.Nat.{_+_, _≤_};
 ghost use lib.ListN.{length, take};
-ghost use Rattle.answers.specs.Numbers.{numberOf};
 ghost use Rattle.order.specs.Laws.{ended as isEnded};
 ghost use Rattle.output.specs.Placed.{Put};
 ghost use Rattle.walking.specs.Lent.{pastCount};
@@ -81,18 +81,18 @@ fn is_ended(place: Place) -> bool
 
 // What bytes left over are refused with: 3, but the first record is all bytes where they are fewer than six. It is
 // judged by itself, so that the walk over a chunk alone delivers, and its code stands in one place.
-fn left_over(s: Stream, bytes: &[u8]) -> u8
-    ensures { λ r. ⌜ r ≡ numberOf (leftOver (streamHouse s) (now (bytes .entry))) ⌝ }
+fn left_over(s: Stream, bytes: &[u8]) -> Answer
+    ensures { λ r. ⌜ r ≡ leftOver (streamHouse s) (now (bytes .entry)) ⌝ }
 {
     let st = s.standing;
     let place = st.place;
     if !is_start(place) {
-        return 3;
+        return Answer::NotOneRecord;
     }
     if is_sound(house_of(s)) {
-        verdict_number(judge_first(st, bytes))
+        verdict_answer(judge_first(st, bytes))
     } else {
-        15
+        Answer::NotSound
     }
 }
 
@@ -120,7 +120,7 @@ fn put_stopped(out: &mut [u8], why: Stop, accepted: u64) -> usize
     ensures { λ r. ⌜ Put (stoppedLine why (accepted + 1)) (now (out .entry)) r (now (out .exit)) ⌝ }
 {
     match why {
-        Stop::Refused(answer) => put_refused(out, answers::number(answer), accepted + 1),
+        Stop::Refused(answer) => put_refused(out, answer, accepted + 1),
         Stop::TooLong => put_too_long(out, accepted + 1),
     }
 }

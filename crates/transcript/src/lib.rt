@@ -3,6 +3,7 @@
 mod names;
 
 use answers::Answer;
+use answers::Values;
 pub use names::say_cell;
 pub use names::say_kind;
 pub use names::say_kind_wide;
@@ -16,7 +17,23 @@ pub fn say_number(n: u64) {
     io::print_decimal(1, n);
 }
 
-// An answer's number.
+// What an answer carries, each of its values behind a space.
+fn say_carried(values: Values) {
+    match values {
+        Values::Nothing => say(b""),
+        Values::Part(head, site) => {
+            say(b" ");
+            say_number(head as u64);
+            say(b" ");
+            say_number(site as u64);
+        }
+    }
+}
+
+// An answer's number, and the values that it carries.
 pub fn say_answer(answer: Answer) {
-    say_number(answers::number(answer) as u64);
+    let saying = answers::said(answer);
+    let values = saying.1;
+    say_number(saying.0 as u64);
+    say_carried(values);
 }

@@ -1,44 +1,44 @@
--- `tally_lines::put_said` meets its contract: all of the words, then the number in the part behind them.
+-- `tally_lines::put_said` meets its contract: words and number, then LF in the part behind them.
 -- Assumes nothing.
+use mathlib.Core.List.{[], _∷_}
 use native.Mathlib.Omega.{arith}
 use denote.Ref.{now}
 use borrow.Author.Needs.{needs}
-use lib.Seq.{take-length}
 use Rattle.output.proofs.Laws.{first, inside, behind, both}
-use Rattle.tally_lines.specs.Lines.{lastNumber}
-use Rattle.tally_lines.proofs.Lines.{put-as}
+use Rattle.line_layouts.specs.Columns.{lineFeed}
+use Rattle.tally_lines.specs.Lines.{numbered}
 use Rattle.tally_lines.proofs.put_said.Statement.{statement}
 use Rattle.tally_lines.proofs.put_said.Tie as tie
 
-put-part-requires : tie.Need-put-part-requires
-put-part-requires c κs =
+put-numbered-requires : tie.Need-put-numbered-requires
+put-numbered-requires c κs =
     let start = c .before .before .before in
     let a = start .args in
-    (omega arith, first (now (a .words)) (lastNumber (a .n)) (now (a .out)) (start .pre))
+    first (numbered (now (a .words)) (a .n)) (lineFeed ∷ []) (now (a .out)) (start .pre)
 
-sub-put-last : tie.Need-sub-put-last
-sub-put-last c =
+sub-put-byte : tie.Need-sub-put-byte
+sub-put-byte c =
     let put = c .before .before in
     let start = put .before .before .before .before in
     let a = start .args in
-    inside (now (a .words)) (lastNumber (a .n)) (now (a .out)) (start .pre) (put .put-part .last .0)
-    (put .put-part .result)
-    (put-as (take-length (now (a .words))) (put .put-part .ensures))
+    inside (numbered (now (a .words)) (a .n)) (lineFeed ∷ []) (now (a .out)) (start .pre) (put .put-numbered .last .0)
+    (put .put-numbered .result)
+    (put .put-numbered .ensures)
 
-part-put-last-start : tie.Need-part-put-last-start
-part-put-last-start c = sub-put-last c
+part-put-byte-start : tie.Need-part-put-byte-start
+part-put-byte-start c = sub-put-byte c
 
-part-put-last-end : tie.Need-part-put-last-end
-part-put-last-end c = search needs
+part-put-byte-end : tie.Need-part-put-byte-end
+part-put-byte-end c = search needs
 
-put-last-requires : tie.Need-put-last-requires
-put-last-requires c κs =
+put-byte-requires : tie.Need-put-byte-requires
+put-byte-requires c κs =
     let put = c .before .before .before in
     let start = put .before .before .before .before in
     let a = start .args in
-    behind (now (a .words)) (lastNumber (a .n)) (now (a .out)) (start .pre) (put .put-part .last .0)
-    (put .put-part .result)
-    (put-as (take-length (now (a .words))) (put .put-part .ensures))
+    behind (numbered (now (a .words)) (a .n)) (lineFeed ∷ []) (now (a .out)) (start .pre) (put .put-numbered .last .0)
+    (put .put-numbered .result)
+    (put .put-numbered .ensures)
 
 returns : tie.Need-returns
 returns c =
@@ -46,10 +46,9 @@ returns c =
     let put = then .before .before .before .before in
     let start = put .before .before .before .before in
     let a = start .args in
-    both (now (a .words)) (lastNumber (a .n)) (now (a .out)) (start .pre) (put .put-part .last .0)
-    (put .put-part .result)
-    (put-as (take-length (now (a .words))) (put .put-part .ensures)) (then .put-last .last .0) (then .put-last .result)
-    (then .put-last .ensures)
+    both (numbered (now (a .words)) (a .n)) (lineFeed ∷ []) (now (a .out)) (start .pre) (put .put-numbered .last .0)
+    (put .put-numbered .result)
+    (put .put-numbered .ensures) (then .put-byte .last .0) (then .put-byte .result) (then .put-byte .ensures)
 
 add-result : tie.Need-add-result
 add-result c =
@@ -63,11 +62,11 @@ pub put-said-spec : {M : Type 1} → statement M
 put-said-spec =
     tie.close
     (tie.spec
-    put-part-requires
-    sub-put-last
-    part-put-last-start
-    part-put-last-end
-    put-last-requires
+    put-numbered-requires
+    sub-put-byte
+    part-put-byte-start
+    part-put-byte-end
+    put-byte-requires
     add-result
     same-length
     returns)

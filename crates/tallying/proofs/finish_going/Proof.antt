@@ -9,8 +9,8 @@ use denote.Ref.{now}
 use borrow.Author.Needs.{needs}
 use Rattle.tallying.specs.Text.{reportLines, leftOver}
 use Rattle.following.specs.Lent.{streamHouse}
-use Rattle.tally_lines.proofs.Lines.{refused-most, unfinished-most, put-as}
-use Rattle.tallying.proofs.Texts.{number-low, put-left, put-closing}
+use Rattle.tally_lines.proofs.Lines.{unfinished-most, put-as}
+use Rattle.tallying.proofs.Texts.{put-left, put-closing}
 use Rattle.tallying.proofs.finish_going.Statement.{statement}
 use Rattle.tallying.proofs.finish_going.Tie as tie
 
@@ -51,19 +51,6 @@ returns-3 c =
     (now (start .args .buf)) (none .if1 .left) false (sym (going .if2 .left) ∙ asked .is-ended .ensures))
     (put .put-unfinished .ensures)
 
-put-refused-requires : tie.Need-put-refused-requires
-put-refused-requires c κs =
-    let left = c .before in
-    let start = left .before .before .before .before .before .before in
-    let bytes = take (start .args .s .held - 0) (now (start .args .buf)) in
-    let low = number-low (leftOver (streamHouse (start .args .s)) bytes) in
-    omega (
-      arith,
-      refused-most (start .args .s .accepted + 1) (omega (arith, start .pre .1)) (left .left-over .result)
-          (omega (arith, low, left .left-over .ensures)),
-      start .pre .2,
-    )
-
 put-unfinished-requires : tie.Need-put-unfinished-requires
 put-unfinished-requires c κs =
     let start = c .before .before .before .before .before .before .before in
@@ -85,6 +72,9 @@ left-over-requires c κs = search needs
 
 add-put-refused : tie.Need-add-put-refused
 add-put-refused c = search needs
+
+put-refused-requires : tie.Need-put-refused-requires
+put-refused-requires c κs = search needs
 
 same-length : tie.Need-same-length
 same-length c = search needs

@@ -22,8 +22,8 @@ is-sound-requires c κs = search needs
 judge-first-requires : tie.Need-judge-first-requires
 judge-first-requires c κs = search needs
 
-verdict-number-requires : tie.Need-verdict-number-requires
-verdict-number-requires c κs = search needs
+verdict-answer-requires : tie.Need-verdict-answer-requires
+verdict-answer-requires c κs = search needs
 
 returns-2 : tie.Need-returns-2
 returns-2 c =
@@ -35,7 +35,7 @@ returns-2 c =
     let is-fine = sym (fine .before .is-sound .ensures) ∙ fine .if2 .taken in
     let told = rw (housed .house-of .ensures) at is-fine in
     let answer = first-answer _ _ told refl starts in
-    rw starts (c .verdict-number .ensures ∙ rw (judged .judge-first .ensures) (sym answer))
+    rw starts (c .verdict-answer .ensures ∙ rw (judged .judge-first .ensures) (sym answer))
 
 returns-3 : tie.Need-returns-3
 returns-3 c =
@@ -55,6 +55,6 @@ left-over-spec =
     house-of-requires
     is-sound-requires
     judge-first-requires
-    verdict-number-requires
+    verdict-answer-requires
     returns-2
     returns-3)

@@ -3,7 +3,7 @@
 use native.Mathlib.Omega.{arith}
 use Prim.Native.Nat.{_+_}
 use borrow.Author.Needs.{needs}
-use Rattle.tally_lines.proofs.Lines.{refused-most, too-long-most, put-as}
+use Rattle.tally_lines.proofs.Lines.{too-long-most, put-as}
 use Rattle.tallying.proofs.Texts.{stopped-refused, stopped-long}
 use Rattle.tallying.proofs.put_stopped.Statement.{statement}
 use Rattle.tallying.proofs.put_stopped.Tie as tie
@@ -12,24 +12,12 @@ use Rattle.tallying.proofs.put_stopped.Tie as tie
 returns : tie.Need-returns
 returns c =
     let put = c .before .before in
-    let numbered = put .before in
-    put-as
-    (stopped-refused _ _ _ (numbered .before .before .before .why .given .1) _ (numbered .number .ensures))
-    (put .put-refused .ensures)
+    put-as (stopped-refused _ _ _ (put .before .before .before .why .given .1)) (put .put-refused .ensures)
 
 returns-2 : tie.Need-returns-2
 returns-2 c =
     let put = c .before .before in
     put-as (stopped-long _ _ (put .before .before .enum-told .given .1)) (put .put-too-long .ensures)
-
-put-refused-requires : tie.Need-put-refused-requires
-put-refused-requires c κs =
-    let start = c .before .before .before .before .before .before in
-    omega (
-      arith,
-      refused-most (start .args .accepted + 1) (omega (arith, start .pre .0)) (c .number .result) (omega arith),
-      start .pre .1,
-    )
 
 put-too-long-requires : tie.Need-put-too-long-requires
 put-too-long-requires c κs =
@@ -41,8 +29,8 @@ put-too-long-requires c κs =
 enum-known-why : tie.Need-enum-known-why
 enum-known-why c = search needs
 
-number-requires : tie.Need-number-requires
-number-requires c κs = search needs
+put-refused-requires : tie.Need-put-refused-requires
+put-refused-requires c κs = search needs
 
 add-put-refused : tie.Need-add-put-refused
 add-put-refused c = search needs
@@ -64,7 +52,6 @@ put-stopped-spec =
     tie.close
     (tie.spec
     enum-known-why
-    number-requires
     add-put-refused
     put-refused-requires
     enum-told

@@ -1,71 +1,76 @@
--- `answers::number` meets its contract: each arm is one row of `numberOf`.
+-- `answers::said` meets its contract: each arm is one row of `sayingOf`.
 -- Assumes nothing.
 use borrow.Author.Needs.{needs}
-use Rattle.answers.proofs.number.Statement.{statement}
-use Rattle.answers.proofs.number.Tie as tie
+use Rattle.answers.proofs.said.Statement.{statement}
+use Rattle.answers.proofs.said.Tie as tie
 
 returns : tie.Need-returns
-returns c = rw (c .enum-told .given .1)
+returns c = (rw (c .enum-told .given .1), tt)
 
 returns-2 : tie.Need-returns-2
-returns-2 c = rw (c .enum-told2 .given .1)
+returns-2 c = (rw (c .enum-told2 .given .1), tt)
 
 returns-3 : tie.Need-returns-3
-returns-3 c = rw (c .enum-told3 .given .1)
+returns-3 c = (rw (c .enum-told3 .given .1), tt)
 
 returns-4 : tie.Need-returns-4
-returns-4 c = rw (c .enum-told4 .given .1)
+returns-4 c = (rw (c .enum-told4 .given .1), tt)
 
 returns-5 : tie.Need-returns-5
-returns-5 c = rw (c .enum-told5 .given .1)
+returns-5 c = (rw (c .enum-told5 .given .1), tt)
 
 returns-6 : tie.Need-returns-6
-returns-6 c = rw (c .enum-told6 .given .1)
+returns-6 c = (rw (c .enum-told6 .given .1), tt)
 
 returns-7 : tie.Need-returns-7
-returns-7 c = rw (c .enum-told7 .given .1)
+returns-7 c = (rw (c .enum-told7 .given .1), tt)
 
 returns-8 : tie.Need-returns-8
-returns-8 c = rw (c .enum-told8 .given .1)
+returns-8 c = (rw (c .enum-told8 .given .1), tt)
 
 returns-9 : tie.Need-returns-9
-returns-9 c = rw (c .enum-told9 .given .1)
+returns-9 c = (rw (c .enum-told9 .given .1), tt)
 
 returns-10 : tie.Need-returns-10
-returns-10 c = rw (c .enum-told10 .given .1)
+returns-10 c = (rw (c .enum-told10 .given .1), tt)
 
 returns-11 : tie.Need-returns-11
-returns-11 c = rw (c .enum-told11 .given .1)
+returns-11 c = (rw (c .enum-told11 .given .1), tt)
 
 returns-12 : tie.Need-returns-12
-returns-12 c = rw (c .enum-told12 .given .1)
+returns-12 c = (rw (c .enum-told12 .given .1), tt)
 
 returns-13 : tie.Need-returns-13
-returns-13 c = rw (c .enum-told13 .given .1)
+returns-13 c = (rw (c .enum-told13 .given .1), tt)
 
 returns-14 : tie.Need-returns-14
-returns-14 c = rw (c .enum-told14 .given .1)
+returns-14 c =
+    let told = c .named .ensures in
+    (rw (c .before .before .a .given .1) (told .0), rw (told .0) (told .1))
 
 returns-15 : tie.Need-returns-15
-returns-15 c = rw (c .enum-told15 .given .1)
+returns-15 c = (rw (c .enum-told14 .given .1), tt)
 
 returns-16 : tie.Need-returns-16
-returns-16 c = rw (c .enum-told16 .given .1)
+returns-16 c = (rw (c .enum-told15 .given .1), tt)
 
 returns-17 : tie.Need-returns-17
-returns-17 c = rw (c .enum-told17 .given .1)
+returns-17 c = (rw (c .enum-told16 .given .1), tt)
 
 returns-18 : tie.Need-returns-18
-returns-18 c = rw (c .enum-told18 .given .1)
+returns-18 c = (rw (c .enum-told17 .given .1), tt)
 
 returns-19 : tie.Need-returns-19
-returns-19 c = rw (c .enum-told19 .given .1)
+returns-19 c = (rw (c .enum-told18 .given .1), tt)
 
 returns-20 : tie.Need-returns-20
-returns-20 c = rw (c .enum-told20 .given .1)
+returns-20 c = (rw (c .enum-told19 .given .1), tt)
 
 returns-21 : tie.Need-returns-21
-returns-21 c = rw (c .enum-told21 .given .1)
+returns-21 c = (rw (c .enum-told20 .given .1), tt)
+
+returns-22 : tie.Need-returns-22
+returns-22 c = (rw (c .enum-told21 .given .1), tt)
 
 -- ---- found by search
 
@@ -108,6 +113,12 @@ enum-told-12 c = search needs
 enum-told-13 : tie.Need-enum-told-13
 enum-told-13 c = search needs
 
+enum-known-a : tie.Need-enum-known-a
+enum-known-a c = search needs
+
+named-requires : tie.Need-named-requires
+named-requires c κs = search needs
+
 enum-told-14 : tie.Need-enum-told-14
 enum-told-14 c = search needs
 
@@ -132,8 +143,8 @@ enum-told-20 c = search needs
 enum-told-21 : tie.Need-enum-told-21
 enum-told-21 c = search needs
 
-pub number-spec : {M : Type 1} → statement M
-number-spec =
+pub said-spec : {M : Type 1} → statement M
+said-spec =
     tie.close
     (tie.spec
     enum-told
@@ -149,6 +160,8 @@ number-spec =
     enum-told-11
     enum-told-12
     enum-told-13
+    enum-known-a
+    named-requires
     enum-told-14
     enum-told-15
     enum-told-16
@@ -177,4 +190,5 @@ number-spec =
     returns-18
     returns-19
     returns-20
-    returns-21)
+    returns-21
+    returns-22)
