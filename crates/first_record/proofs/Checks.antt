@@ -26,24 +26,23 @@ use Rattle.first_record.specs.First.{inOrder, judgeIn, judgeOrdered, jud
 use Rattle.first_record.specs.Laws.{isKnown, FirstNumber}
 
 -- every verdict is a refusal with a record's own number, or the order is told
-module _ (parts : List ℕ) (P : Verdict → Type 0) (refused : (a : Answer) → ByItself parts a → P (Refused a))
-  where
-    pub first-cases : (st : Standing) (rec : List ℕ)
-        → ((order : Order) → orderIn rec ≡ order → P (Taken (stands (inOrder st order))))
-        → P (judgeFirst st rec)
-    unfolding judgeFirst judgeIn
-    first-cases st rec taken =
-        choice-by P _ (leb header (length rec)) _ (refused answer.NotOneRecord (refl, refl)) (λ _.
-        choice-by P _ (eqb (recTyp rec) 0 && eqb (recSub rec) 10) _ (refused answer.OutOfPlace (refl, refl)) (λ _.
-        choice-by P _ (eqb (length rec) 6) _ (refused answer.NotOneRecord (refl, refl)) (λ _.
-        by-order (orderOf (byteOf far 0 (body rec))) refl)))
-      where
-        by-order : (o : Ordering) → orderOf (byteOf far 0 (body rec)) ≡ o → P (judgeOrdered st rec o)
-        by-order ordering.Unknown told = refused answer.UnknownOrder (refl, refl)
-        by-order (ordering.Known order) told =
-            choice-by P _ (eqb (recLen order rec) 2) _ (refused answer.NotOneRecord (refl, refl)) (λ _.
-            choice-by P _ (eqb (byteOf far 1 (body rec)) 4) _ (refused answer.WrongVersion (refl, refl)) (λ _.
-            taken order (ap orderTold told)))
+module _ (parts : List ℕ) (P : Verdict → Type 0) (refused : (a : Answer) → ByItself parts a → P (Refused a)) where
+  pub first-cases : (st : Standing) (rec : List ℕ)
+      → ((order : Order) → orderIn rec ≡ order → P (Taken (stands (inOrder st order))))
+      → P (judgeFirst st rec)
+  unfolding judgeFirst judgeIn
+  first-cases st rec taken =
+      choice-by P _ (leb header (length rec)) _ (refused answer.NotOneRecord (refl, refl)) (λ _.
+      choice-by P _ (eqb (recTyp rec) 0 && eqb (recSub rec) 10) _ (refused answer.OutOfPlace (refl, refl)) (λ _.
+      choice-by P _ (eqb (length rec) 6) _ (refused answer.NotOneRecord (refl, refl)) (λ _.
+      by-order (orderOf (byteOf far 0 (body rec))) refl)))
+    where
+      by-order : (o : Ordering) → orderOf (byteOf far 0 (body rec)) ≡ o → P (judgeOrdered st rec o)
+      by-order ordering.Unknown told = refused answer.UnknownOrder (refl, refl)
+      by-order (ordering.Known order) told =
+          choice-by P _ (eqb (recLen order rec) 2) _ (refused answer.NotOneRecord (refl, refl)) (λ _.
+          choice-by P _ (eqb (byteOf far 1 (body rec)) 4) _ (refused answer.WrongVersion (refl, refl)) (λ _.
+          taken order (ap orderTold told)))
 
 -- ---- the order of checks, as a list
 

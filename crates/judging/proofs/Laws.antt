@@ -65,19 +65,18 @@ judged-later st parts rec e = rw e
 
 -- ---- the ways to be accepted
 
-module _ (parts : List ℕ) (P : Verdict → Type 0) (refused : (a : Answer) → ByItself parts a → P (Refused a))
-  where
-    judge-cases : (st : Standing) (rec : List ℕ)
-        → ((order : Order) → isStart (st .place) ≡ true → orderIn rec ≡ order → P (Taken (stands (inOrder st order))))
-        → ((k : Kind) (q : Place) (r : Record) → kindOf (recTyp rec) (recSub rec) ≡ k → goes (st .place) k ≡ To q
-        → readBody (st .order) k (body rec) ≡ Fits r → P (judgeSaid (at st q) parts r))
-        → P (judge st parts rec)
-    unfolding judge
-    judge-cases st rec first later = go (isStart (st .place)) refl
-      where
-        go : (t : Bool) → isStart (st .place) ≡ t → P (cond t (judgeFirst st rec) (judgeLater st parts rec))
-        go true e = first-cases parts P refused st rec (λ order. first order e)
-        go false e = later-cases parts P refused st rec later
+module _ (parts : List ℕ) (P : Verdict → Type 0) (refused : (a : Answer) → ByItself parts a → P (Refused a)) where
+  judge-cases : (st : Standing) (rec : List ℕ)
+      → ((order : Order) → isStart (st .place) ≡ true → orderIn rec ≡ order → P (Taken (stands (inOrder st order))))
+      → ((k : Kind) (q : Place) (r : Record) → kindOf (recTyp rec) (recSub rec) ≡ k → goes (st .place) k ≡ To q
+      → readBody (st .order) k (body rec) ≡ Fits r → P (judgeSaid (at st q) parts r))
+      → P (judge st parts rec)
+  unfolding judge
+  judge-cases st rec first later = go (isStart (st .place)) refl
+    where
+      go : (t : Bool) → isStart (st .place) ≡ t → P (cond t (judgeFirst st rec) (judgeLater st parts rec))
+      go true e = first-cases parts P refused st rec (λ order. first order e)
+      go false e = later-cases parts P refused st rec later
 
 -- ---- a part opens and closes among the open ones
 

@@ -35,38 +35,37 @@ quiet (said.Pcr p) = false
 quiet (said.Pir p) = false
 quiet (said.Prr p) = false
 
-module _ (parts : List ℕ) (P : Verdict → Type 0) (refused : (a : Answer) → ByItself parts a → P (Refused a))
-  where
-    -- a record in its place is taken as it is, or is one of the four kinds that the house looks at
-    pub said-cases : (st : Standing) (r : Record)
-        → (quiet r ≡ true → P (Taken (stands st)))
-        → ((p : Pcr) → r ≡ said.Pcr p → P (Taken (stands (withPcr st))))
-        → ((p : Pir) → r ≡ said.Pir p → held (partOf (p .head) (p .site)) parts ≡ false → st .opened < mostOpen
-        → P (Taken (opens st (rank (partOf (p .head) (p .site)) parts) (partOf (p .head) (p .site)))))
-        → ((p : Prr) → r ≡ said.Prr p → held (partOf (p .head) (p .site)) parts ≡ true → st .results < mostResults
-        → P (Wanted (closes st (rank (partOf (p .head) (p .site)) parts)) (keyOf (p .head) (p .site) (p .bin))))
-        → (r ≡ said.Mrr → (eqb (st .opened) 0 && st .pcr) ≡ true → P (Taken (stands st)))
-        → P (judgeSaid st parts r)
-    unfolding judgePir judgePrr judgeMrr
-    said-cases st (said.Pir p) taken pcr pir prr mrr =
-        let part = partOf (p .head) (p .site) in
-        choice-by P _ (not (held part parts)) _ (refused answer.PartOpen (refl, refl)) (λ new.
-        choice-by P _ (ltb (st .opened) mostOpen) _ (refused answer.TooManyParts (refl, refl)) (λ few.
-        pir p refl (not-true (held part parts) new) (ltb-true (st .opened) mostOpen few)))
-    said-cases st (said.Prr p) taken pcr pir prr mrr =
-        let part = partOf (p .head) (p .site) in
-        choice-by P _ (held part parts) _ (refused answer.PartNotOpen (refl, refl)) (λ there.
-        choice-by P _ (ltb (st .results) mostResults) _ (refused answer.TooManyResults (refl, refl)) (λ few.
-        prr p refl there (ltb-true (st .results) mostResults few)))
-    said-cases st said.Mrr taken pcr pir prr mrr =
-        choice-by P _ (eqb (st .opened) 0) _ (refused (stillOpen parts) (refl, refl)) (λ none.
-        choice-by P _ (st .pcr) _ (refused answer.NoPcr (refl, refl)) (λ noted.
-        mrr refl (rw none noted)))
-    said-cases st (said.Pcr p) taken pcr pir prr mrr = pcr p refl
-    said-cases st (said.Far f) taken pcr pir prr mrr = taken refl
-    said-cases st said.Mir taken pcr pir prr mrr = taken refl
-    said-cases st (said.Bin b) taken pcr pir prr mrr = taken refl
-    said-cases st said.Unread taken pcr pir prr mrr = taken refl
+module _ (parts : List ℕ) (P : Verdict → Type 0) (refused : (a : Answer) → ByItself parts a → P (Refused a)) where
+  -- a record in its place is taken as it is, or is one of the four kinds that the house looks at
+  pub said-cases : (st : Standing) (r : Record)
+      → (quiet r ≡ true → P (Taken (stands st)))
+      → ((p : Pcr) → r ≡ said.Pcr p → P (Taken (stands (withPcr st))))
+      → ((p : Pir) → r ≡ said.Pir p → held (partOf (p .head) (p .site)) parts ≡ false → st .opened < mostOpen
+      → P (Taken (opens st (rank (partOf (p .head) (p .site)) parts) (partOf (p .head) (p .site)))))
+      → ((p : Prr) → r ≡ said.Prr p → held (partOf (p .head) (p .site)) parts ≡ true → st .results < mostResults
+      → P (Wanted (closes st (rank (partOf (p .head) (p .site)) parts)) (keyOf (p .head) (p .site) (p .bin))))
+      → (r ≡ said.Mrr → (eqb (st .opened) 0 && st .pcr) ≡ true → P (Taken (stands st)))
+      → P (judgeSaid st parts r)
+  unfolding judgePir judgePrr judgeMrr
+  said-cases st (said.Pir p) taken pcr pir prr mrr =
+      let part = partOf (p .head) (p .site) in
+      choice-by P _ (not (held part parts)) _ (refused answer.PartOpen (refl, refl)) (λ new.
+      choice-by P _ (ltb (st .opened) mostOpen) _ (refused answer.TooManyParts (refl, refl)) (λ few.
+      pir p refl (not-true (held part parts) new) (ltb-true (st .opened) mostOpen few)))
+  said-cases st (said.Prr p) taken pcr pir prr mrr =
+      let part = partOf (p .head) (p .site) in
+      choice-by P _ (held part parts) _ (refused answer.PartNotOpen (refl, refl)) (λ there.
+      choice-by P _ (ltb (st .results) mostResults) _ (refused answer.TooManyResults (refl, refl)) (λ few.
+      prr p refl there (ltb-true (st .results) mostResults few)))
+  said-cases st said.Mrr taken pcr pir prr mrr =
+      choice-by P _ (eqb (st .opened) 0) _ (refused (stillOpen parts) (refl, refl)) (λ none.
+      choice-by P _ (st .pcr) _ (refused answer.NoPcr (refl, refl)) (λ noted.
+      mrr refl (rw none noted)))
+  said-cases st (said.Pcr p) taken pcr pir prr mrr = pcr p refl
+  said-cases st (said.Far f) taken pcr pir prr mrr = taken refl
+  said-cases st said.Mir taken pcr pir prr mrr = taken refl
+  said-cases st (said.Bin b) taken pcr pir prr mrr = taken refl
+  said-cases st said.Unread taken pcr pir prr mrr = taken refl
 
 -- ---- the checks, as a list
 

@@ -43,29 +43,28 @@ use Rattle.later_records.specs.Later.{at, judgeLater}
 use Rattle.later_records.specs.Results.{None, resultIn}
 use Rattle.later_records.specs.Laws.{LaterNumber}
 
-module _ (parts : List ℕ) (P : Verdict → Type 0) (refused : (a : Answer) → ByItself parts a → P (Refused a))
-  where
-    pub later-cases : (st : Standing) (rec : List ℕ)
-        → ((k : Kind) (q : Place) (r : Record) → kindOf (recTyp rec) (recSub rec) ≡ k → goes (st .place) k ≡ To q
-        → readBody (st .order) k (body rec) ≡ Fits r → P (judgeSaid (at st q) parts r))
-        → P (judgeLater st parts rec)
-    unfolding judgeLater
-    later-cases st rec accepted =
-        choice-by P _ (isRecord (st .order) rec) _ (refused answer.NotOneRecord (refl, refl)) (λ _.
-        choice-by P _ (known named) _ (refused answer.UnknownKind (refl, refl)) (λ _.
-        by-step (goes (st .place) named) (readBody (st .order) named (body rec)) refl refl))
-      where
-        named : Kind
-        named = kindOf (recTyp rec) (recSub rec)
+module _ (parts : List ℕ) (P : Verdict → Type 0) (refused : (a : Answer) → ByItself parts a → P (Refused a)) where
+  pub later-cases : (st : Standing) (rec : List ℕ)
+      → ((k : Kind) (q : Place) (r : Record) → kindOf (recTyp rec) (recSub rec) ≡ k → goes (st .place) k ≡ To q
+      → readBody (st .order) k (body rec) ≡ Fits r → P (judgeSaid (at st q) parts r))
+      → P (judgeLater st parts rec)
+  unfolding judgeLater
+  later-cases st rec accepted =
+      choice-by P _ (isRecord (st .order) rec) _ (refused answer.NotOneRecord (refl, refl)) (λ _.
+      choice-by P _ (known named) _ (refused answer.UnknownKind (refl, refl)) (λ _.
+      by-step (goes (st .place) named) (readBody (st .order) named (body rec)) refl refl))
+    where
+      named : Kind
+      named = kindOf (recTyp rec) (recSub rec)
 
-        by-step : (step : Step) (reading : Reading) → goes (st .place) named ≡ step
-            → readBody (st .order) named (body rec) ≡ reading
-            → P (Refused answer.OutOfPlace unless inPlace step then
-            Refused answer.BodyMisfit unless fitting reading then
-            judgeSaid (at st (placeAfter step)) parts (saidOf reading))
-        by-step OutOfPlace reading e f = refused answer.OutOfPlace (refl, refl)
-        by-step (To q) Misfit e f = refused answer.BodyMisfit (refl, refl)
-        by-step (To q) (Fits r) e f = accepted named q r refl e f
+      by-step : (step : Step) (reading : Reading) → goes (st .place) named ≡ step
+          → readBody (st .order) named (body rec) ≡ reading
+          → P (Refused answer.OutOfPlace unless inPlace step then
+          Refused answer.BodyMisfit unless fitting reading then
+          judgeSaid (at st (placeAfter step)) parts (saidOf reading))
+      by-step OutOfPlace reading e f = refused answer.OutOfPlace (refl, refl)
+      by-step (To q) Misfit e f = refused answer.BodyMisfit (refl, refl)
+      by-step (To q) (Fits r) e f = accepted named q r refl e f
 
 -- ---- where a record stands that does something
 
