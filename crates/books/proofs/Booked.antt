@@ -16,10 +16,10 @@ use Rattle.rows.specs.Counts.{Count, plus, rowsBy}
 use Rattle.session.specs.declared.Session.{Session}
 use Rattle.session.specs.declared.Verdict.{Verdict}
 use Rattle.session.specs.declared.Verdict.the-variants.{Refused, Taken, Wanted}
-use Rattle.session.specs.Session.{partsOf, begun}
-use Rattle.session.specs.Verdicts.{ByItself}
+use Rattle.session.specs.Session.{begun}
 use Rattle.settling.specs.Settling.{changed}
 use Rattle.judging.specs.Judge.{verdictOn}
+use Rattle.judging.specs.Laws.{RefusesOwn}
 use Rattle.judging.proofs.Laws.{judged-refusal}
 use Rattle.house.specs.declared.Slot.{Slot}
 use Rattle.house.specs.declared.House.{House}
@@ -108,7 +108,7 @@ module _ (slot : ℕ) (b : Book) (h : House) (p : Agree slot b h) where
 
   -- any verdict that is
   agree-verdict : (rec : List ℕ) (v : Verdict) (o : Answered) → slotAt h slot .taken ≡ true → Own h slot v o
-      → ((a : Answer) → v ≡ Refused a → ByItself (partsOf (slotAt h slot .session)) a)
+      → RefusesOwn (slotAt h slot .session) v
       → Booked b (slotAt h slot .session) rec v
       → numberOf (o .answer) ≡ 0 → Agree slot (noted rec b) (o .house)
   unfolding packed
@@ -173,7 +173,7 @@ module _ (slot : ℕ) (b : Book) (h : House) (p : Agree slot b h) where
         let within = ltb-true slot slotCount (inside .0) in
         let opened = holds (slotAt h slot .taken) _ 1 (inside .1) .0 in
         agree-verdict rec (verdictOn s rec) (deliver h slot rec) opened
-        (own-deliver h slot shape e within rec bytes opened) (λ a is. judged-refusal s rec a is)
+        (own-deliver h slot shape e within rec bytes opened) (judged-refusal s rec)
         (booked-at rec bytes within opened) done
 
     -- a call that is done, on its own slot

@@ -7,14 +7,13 @@ use mathlib.Core.List.{List, [], _∷_}
 use Prim.Native.Nat.{ℕ, _+_, _≤_, _<_}
 use native.Mathlib.Omega.{arith}
 use lib.Dec.{eqb, leb}
-use Rattle.answers.specs.declared.Answer.{Answer}
 use Rattle.answers.specs.Numbers.{numberOf}
 use Rattle.rows.specs.Rows.{slotCount}
 use Rattle.session.specs.declared.Verdict.{Verdict}
 use Rattle.session.specs.declared.Verdict.the-variants.{Refused, Taken, Wanted}
-use Rattle.session.specs.Session.{partsOf}
-use Rattle.session.specs.Verdicts.{verdictNumber, ByItself}
+use Rattle.session.specs.Verdicts.{verdictNumber}
 use Rattle.judging.specs.Judge.{verdictOn}
+use Rattle.judging.specs.Laws.{RefusesOwn}
 use Rattle.judging.proofs.Laws.{judged-refusal}
 use Rattle.house.specs.declared.House.{House}
 use Rattle.house.specs.House.{fresh, keysOf, sound}
@@ -59,7 +58,7 @@ never-refused calls slot rec sent bytes below refused =
 module _ (slot : ℕ) (b : Book) (h : House) (p : Agree slot b h) (shape : Shaped h) (e : sound h ≡ true) where
   -- the row that a record asks for
   asks-told : (rec : List ℕ) (v : Verdict) → Booked b (slotAt h slot .session) rec v
-      → ((a : Answer) → v ≡ Refused a → ByItself (partsOf (slotAt h slot .session)) a)
+      → RefusesOwn (slotAt h slot .session) v
       → cond (eqb (verdictNumber v) 0) (asked b (resultsIn (saidIn b rec))) 0 ≡ house.asking slot (keysOf h) v
   asks-told rec (Refused a) kept own = rw (own-number a (own a refl .0))
   asks-told rec (Taken change) kept own = rw (kept .1)
@@ -79,7 +78,7 @@ module _ (slot : ℕ) (b : Book) (h : House) (p : Agree slot b h) (shape : Shape
         (ap (λ (n : ℕ). cond (eqb n 0) (asked b (resultsIn (saidIn b rec))) 0)
         (sym (says-number b s rec sent (p .says)))
         ∙ asks-told rec (verdictOn s rec) (booked-at slot b h p shape e rec sent inside t)
-        (λ a is. judged-refusal s rec a is))
+        (judged-refusal s rec))
     needs-told (Report i long) sent = rows-in slot b h p shape e
     needs-told (Close i) sent = rows-in slot b h p shape e
     needs-told Figured sent = rows-in slot b h p shape e

@@ -2,7 +2,7 @@
 -- and the first of them is the smallest that its book has open.
 -- Assumes nothing.
 use mathlib.Core.Path.{_≡_, refl, ap, ap₂, sym, subst, _∙_}
-use mathlib.Core.Bool.{Bool, true, false, cond, false≢true}
+use mathlib.Core.Bool.{Bool, true, false, cond}
 use mathlib.Core.List.{List, [], _∷_, _++_}
 use Prim.Native.Nat.{ℕ, _≤_, _<_}
 use native.Mathlib.Omega.{arith}
@@ -10,12 +10,9 @@ use borrow.Author.Tests.{eqb-true, le-ltb, ltb-true}
 use lib.Dec.{eqb, ltb}
 use lib.ListN.{length}
 use lib.Seq.{length-take-le}
-use Rattle.prelude.specs.Checks.{Check, _else_, numberBy}
+use Rattle.prelude.specs.Checks.{_else_, numberBy}
 use Rattle.prelude.specs.Each.{each}
-use Rattle.answers.specs.declared.Answer.{Answer}
-use Rattle.answers.specs.declared.Values.{Values}
 use Rattle.answers.specs.declared.Values.the-variants as values
-use Rattle.answers.specs.Numbers.{numberOf, valuesOf}
 use Rattle.numbers.specs.Laws.{Bytes}
 use Rattle.frames.specs.Frames.{body}
 use Rattle.bodies.specs.Bodies.{readBody, saidOf}
@@ -23,7 +20,6 @@ use Rattle.rising.specs.Rising.{held}
 use Rattle.rising.proofs.Laws.{below-at}
 use Rattle.session.specs.declared.Session.{Session}
 use Rattle.session.specs.Session.{mostOpen, partOf, partHead, partSite, smallest, partsOf, isStart, sound}
-use Rattle.session.specs.Verdicts.{carried}
 use Rattle.session.proofs.Laws.{sound-parts-told, smallest-held, smallest-least}
 use Rattle.session.proofs.Keys.{part-rises, part-gives}
 use Rattle.first_record.specs.Laws.{firstChecks}
@@ -31,13 +27,13 @@ use Rattle.later_records.specs.Laws.{laterChecks}
 use Rattle.rows.specs.Rows.{slotCount}
 use Rattle.house.specs.declared.House.{House}
 use Rattle.house.specs.House.{fresh}
-use Rattle.house.specs.Calls.{slotAt, deliver}
+use Rattle.house.specs.Calls.{slotAt}
 use Rattle.house.specs.History.{Call, Open, Deliver, Report, Close, Figured, reached, history, AllSent}
 use Rattle.house.proofs.Calling.{open-session}
 use Rattle.house.proofs.Keeping.{reached-sound}
 use Rattle.house.proofs.Counting.{reached-shaped}
 use Rattle.house.proofs.Rooms.{deliver-carries, plain-answer}
-use Rattle.books.specs.Book.{Part, part, isOpen, leastOf, smallestOf, Book, kindIn, bookOf}
+use Rattle.books.specs.Book.{Part, isOpen, leastOf, smallestOf, Book, kindIn, bookOf}
 use Rattle.books.specs.Told.{numberTold, valuesTold, recordChecks, roomTo, Smallest, ValuesTold, SmallestTold}
 use Rattle.books.proofs.Parts.{Low, number, open-low, least-open, least-low, least-first}
 use Rattle.books.proofs.Following.{Says}

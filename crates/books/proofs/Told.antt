@@ -13,7 +13,6 @@ use lib.ListN.{length, length-map}
 use Rattle.prelude.specs.Checks.{Check, _else_, numberBy}
 use Rattle.prelude.specs.Each.{each}
 use Rattle.prelude.proofs.Both.{both-left, both-right}
-use Rattle.answers.specs.declared.Answer.{Answer}
 use Rattle.answers.specs.declared.Answer.the-variants.{Done}
 use Rattle.answers.specs.Numbers.{numberOf}
 use Rattle.numbers.specs.Laws.{Bytes}
@@ -23,9 +22,9 @@ use Rattle.rows.specs.Counts.{has}
 use Rattle.rows.proofs.Counts.{rows-has}
 use Rattle.session.specs.declared.Verdict.{Verdict}
 use Rattle.session.specs.declared.Verdict.the-variants.{Refused, Taken, Wanted}
-use Rattle.session.specs.Session.{partsOf}
-use Rattle.session.specs.Verdicts.{verdictNumber, ByItself}
+use Rattle.session.specs.Verdicts.{verdictNumber}
 use Rattle.judging.specs.Judge.{verdictOn}
+use Rattle.judging.specs.Laws.{RefusesOwn}
 use Rattle.judging.proofs.Laws.{judged-refusal}
 use Rattle.house.specs.declared.House.{House}
 use Rattle.house.specs.declared.Figures.{Figures}
@@ -142,7 +141,7 @@ module _ (slot : ℕ) (b : Book) (h : House) (p : Agree slot b h) (shape : Shape
       (ap₂ ltb owed-now free-now)
 
   room-told : (rec : List ℕ) (v : Verdict) → Booked b (slotAt h slot .session) rec v
-      → ((a : Answer) → v ≡ Refused a → ByItself (partsOf (slotAt h slot .session)) a) → slot < slotCount
+      → RefusesOwn (slotAt h slot .session) v → slot < slotCount
       → slotAt h slot .taken ≡ true
       → verdictNumber v ≡ 0 → roomFor h slot v ≡ rowFor free-is promised-is b (resultsIn (saidIn b rec))
   room-told rec (Refused a) kept own inside t done =
@@ -179,7 +178,7 @@ module _ (slot : ℕ) (b : Book) (h : House) (p : Agree slot b h) (shape : Shape
       let inside = ltb-true slot slotCount within in
       joined (verdictNumber v) (recordChecks b rec) (roomFor h slot v) there (says-number b s rec bytes (p .says))
       (checks-number b rec)
-      (room-told rec v (booked-at slot b h p shape e rec bytes inside t) (λ a is. judged-refusal s rec a is) inside t))
+      (room-told rec v (booked-at slot b h p shape e rec bytes inside t) (judged-refusal s rec) inside t))
       ∙ ap (λ (t : Bool). cond t (numberBy (recordChecks b rec ++ ((there else 13) ∷ []))) 2) (sym (p .opened))))
 
 -- ---- free and promised, by the books of all slots

@@ -100,7 +100,7 @@ abbrev pub Smallest : List Part → Values → Type 0
 Smallest parts values.Nothing = ⊥
 Smallest parts (values.Part head site) =
     (isOpen parts head site ≡ true)
-    × ((h s : ℕ) → isOpen parts h s ≡ true → precedes (part h s) (part head site) ≡ false)
+    × ((head′ site′ : ℕ) → isOpen parts head′ site′ ≡ true → precedes (part head′ site′) (part head site) ≡ false)
 
 abbrev pub SmallestTold : Type 0
 SmallestTold = (calls : List Call) (slot : ℕ) (rec : List ℕ) → AllSent calls → Bytes rec

@@ -23,13 +23,13 @@ use Rattle.rows.proofs.Counts.{rows-held-by, rows-at, plus-rising}
 use Rattle.session.specs.declared.Standing.{Standing}
 use Rattle.session.specs.declared.Verdict.{Verdict}
 use Rattle.session.specs.declared.Verdict.the-variants.{Refused, Taken, Wanted}
-use Rattle.session.specs.Session.{partsOf, isStart, Follows}
-use Rattle.session.specs.Verdicts.{ownNumber, ByItself}
+use Rattle.session.specs.Session.{isStart, Follows}
+use Rattle.session.specs.Verdicts.{ownNumber}
 use Rattle.settling.specs.Settling.{changed}
 use Rattle.first_record.specs.First.{orderIn}
 use Rattle.later_records.specs.Results.{Result, None, Part, resultOf}
 use Rattle.judging.specs.Judge.{verdictOn}
-use Rattle.judging.specs.Laws.{Begins, Tells}
+use Rattle.judging.specs.Laws.{Begins, Tells, RefusesOwn}
 use Rattle.judging.proofs.Laws.{judged-begins, judged-tells, judged-refusal}
 use Rattle.house.specs.declared.Slot.{Slot}
 use Rattle.house.specs.declared.House.{House}
@@ -142,7 +142,7 @@ module _ (slot : ℕ) (t : Heard) (h : House) (p : Agree slot t h) where
 
   -- any verdict that is accepted
   agree-verdict : (rec : List ℕ) (v : Verdict) (o : Answered) → slotAt h slot .taken ≡ true → Own h slot v o
-      → ((a : Answer) → v ≡ Refused a → ByItself (partsOf (slotAt h slot .session)) a)
+      → RefusesOwn (slotAt h slot .session) v
       → (isStart (slotAt h slot .session .standing .place) ≡ true → Begins (slotAt h slot .session) rec v)
       → (isStart (slotAt h slot .session .standing .place) ≡ false
       → Tells (slotAt h slot .session) rec v)
@@ -214,7 +214,7 @@ module _ (slot : ℕ) (t : Heard) (h : House) (p : Agree slot t h) where
         let opened = holds (slotAt h slot .taken) _ 1 (inside .1) .0 in
         agree-verdict rec v (deliver h slot rec) opened
         (own-deliver h slot shape e (ltb-true slot slotCount (inside .0)) rec bytes opened)
-        (λ a is. judged-refusal s rec a is)
+        (judged-refusal s rec)
         (λ starts. judged-begins s rec starts)
         (λ further. judged-tells s rec further) done
 
@@ -475,7 +475,7 @@ never-refused calls slot rec sent bytes below refused = go (told .opened) refl
     verdict = verdictOn (slotAt h slot .session) rec
 
     by : (v : Verdict)
-        → ((a : Answer) → v ≡ Refused a → ByItself (partsOf (slotAt h slot .session)) a)
+        → RefusesOwn (slotAt h slot .session) v
         → heldBy slot (keysOf h) < slotAt h slot .floor → answerBy v (roomFor h slot v) ≡ NoRoom → ⊥
     by (Refused a) own low is =
         false≢true (sym (ap (λ (x : Answer). ownNumber (numberOf x)) is) ∙ own a refl .0)
@@ -491,6 +491,6 @@ never-refused calls slot rec sent bytes below refused = go (told .opened) refl
         let shape = reached-shaped calls sent in
         let inside : slot < slotCount = omega (arith, open-within (h .slots) slot taken, shape .slots) in
         let s = slotAt h slot .session in
-        by verdict (λ a is. judged-refusal s rec a is)
+        by verdict (judged-refusal s rec)
         (omega (arith, told-held calls sent slot, agrees .floor, below))
         (sym (own-deliver h slot shape (reached-sound calls sent) inside rec bytes taken .answer) ∙ refused)

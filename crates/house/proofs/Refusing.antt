@@ -17,9 +17,9 @@ use Rattle.answers.specs.Numbers.{numberOf}
 use Rattle.rows.specs.Rows.{slotCount, rowKey, heldBy}
 use Rattle.session.specs.declared.Verdict.{Verdict}
 use Rattle.session.specs.declared.Verdict.the-variants.{Refused, Taken, Wanted}
-use Rattle.session.specs.Session.{partsOf}
-use Rattle.session.specs.Verdicts.{verdictNumber, ownNumber, ByItself}
+use Rattle.session.specs.Verdicts.{verdictNumber, ownNumber}
 use Rattle.judging.specs.Judge.{verdictOn}
+use Rattle.judging.specs.Laws.{RefusesOwn}
 use Rattle.judging.proofs.Laws.{judged-refusal}
 use Rattle.house.specs.declared.House.{House}
 use Rattle.house.specs.declared.Reported.{Reported}
@@ -96,7 +96,7 @@ own-number a own = ne-eqb (numberOf a) 0 (λ none. false≢true (sym (ap ownNumb
 
 -- a verdict's own number, then 13
 settled-number : (h : House) (slot : ℕ) (v : Verdict)
-    → ((a : Answer) → v ≡ Refused a → ByItself (partsOf (slotAt h slot .session)) a)
+    → RefusesOwn (slotAt h slot .session) v
     → number (withOutcome h slot (settledTo h slot v))
     ≡ numberBy ((eqb (verdictNumber v) 0 else verdictNumber v) ∷ (roomFor h slot v else 13) ∷ [])
 unfolding settled resultedIf rowTaken
@@ -117,7 +117,7 @@ deliver-number h slot rec =
     let v = verdictOn s rec in
     checked-number (refusal h) numberOf number (λ a. refl) (slotChecks h slot)
     ((eqb (verdictNumber v) 0 else verdictNumber v) ∷ (roomFor h slot v else 13) ∷ []) _
-    (λ e. settled-number h slot v (λ a is. judged-refusal s rec a is))
+    (λ e. settled-number h slot v (judged-refusal s rec))
 
 pub report-number : ReportNumber
 unfolding reported

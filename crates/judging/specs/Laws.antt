@@ -1,8 +1,9 @@
 -- What is shown of the judgement: statements only, the laws by which a house uses it, and never its text. Each is
 -- proved in proofs/Laws.antt, under its name in small letters.
 --
---   KeyRight   that a key is one of a row: head at most 254, bin at most 32,767
---   Begins     what a verdict on a first record tells, and Tells, on a later one
+--   KeyRight     that a key is one of a row: head at most 254, bin at most 32,767
+--   Begins       what a verdict on a first record tells, and Tells, on a later one
+--   RefusesOwn   that a verdict which refuses does so with an answer that a record by itself may be given
 -- Assumes nothing.
 use mathlib.Core.Path.{_≡_}
 use mathlib.Core.Bool.{true, false}
@@ -95,5 +96,8 @@ abbrev pub JudgedTells : Type 0
 JudgedTells = (s : Session) (rec : List ℕ) → isStart (s .standing .place) ≡ false → Tells s rec (verdictOn s rec)
 
 -- a record by itself is refused with its own numbers alone, and 12 names the smallest of the open parts
+abbrev pub RefusesOwn : Session → Verdict → Type 0
+RefusesOwn s v = (a : Answer) → v ≡ Refused a → ByItself (partsOf s) a
+
 abbrev pub JudgedRefusal : Type 0
-JudgedRefusal = (s : Session) (rec : List ℕ) (a : Answer) → verdictOn s rec ≡ Refused a → ByItself (partsOf s) a
+JudgedRefusal = (s : Session) (rec : List ℕ) → RefusesOwn s (verdictOn s rec)

@@ -39,7 +39,7 @@ abbrev pub PartRises : Type 0
 PartRises = (head site head′ site′ : ℕ) → site < 256 → site′ < 256
     → ltb (partOf head site) (partOf head′ site′) ≡ (ltb head head′ || (eqb head head′ && ltb site site′))
 
--- a part's number is that of its head and its site, and of no others
+-- a part's head and its site make its number
 abbrev pub PartGives : Type 0
 PartGives = (part : ℕ) → part < pastParts → partOf (partHead part) (partSite part) ≡ part
 

@@ -53,7 +53,7 @@ pastParts = partOf allSites 0
 abbrev pub partsOf : Session → List ℕ
 partsOf s = take (s .standing .opened) (s .parts)
 
--- the first of them
+-- #101: of parts that rise, the first
 abbrev pub smallest : List ℕ → ℕ
 smallest parts = getD parts 0 0
 

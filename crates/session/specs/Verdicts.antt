@@ -14,7 +14,7 @@ use lib.Dec.{eqb, leb}
 use Rattle.answers.specs.declared.Answer.{Answer}
 use Rattle.answers.specs.declared.Answer.the-variants as answer
 use Rattle.answers.specs.declared.Values.{Values}
-use Rattle.answers.specs.declared.Values.the-variants.{Nothing, Part}
+use Rattle.answers.specs.declared.Values.the-variants.{Nothing}
 use Rattle.answers.specs.Numbers.{numberOf, valuesOf}
 use Rattle.session.specs.declared.Standing.{Standing}
 use Rattle.session.specs.declared.Change.{Change}
@@ -44,9 +44,9 @@ verdictNumber v = numberOf (verdictAnswer v)
 abbrev pub ownNumber : ℕ → Bool
 ownNumber n = (leb 3 n && leb n 12) || (eqb n 14 || eqb n 20)
 
--- #101: 12 carries the smallest head and site of the open parts, and no other number carries anything
+-- 12 carries a part, and no other number carries anything
 abbrev pub carried : ℕ → List ℕ → Values
-carried n parts = cond (eqb n 12) (Part (partHead (smallest parts)) (partSite (smallest parts))) Nothing
+carried n parts = cond (eqb n 12) (valuesOf (stillOpen parts)) Nothing
 
 abbrev pub ByItself : List ℕ → Answer → Type 0
 ByItself parts a = (ownNumber (numberOf a) ≡ true) × (valuesOf a ≡ carried (numberOf a) parts)

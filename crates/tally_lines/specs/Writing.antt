@@ -38,7 +38,7 @@ lineOf r =
 abbrev pub mostLine : ℕ
 mostLine = 48
 
--- 32 bytes of words and LF, and a number of twenty digits at most, and three of ten
+-- 33 bytes of words and LF, a number of at most twenty digits, and three of at most ten
 abbrev pub mostRefused : ℕ
 mostRefused = 83
 

@@ -26,11 +26,11 @@ use Rattle.session.specs.declared.Standing.{Standing}
 use Rattle.session.specs.declared.Verdict.{Verdict}
 use Rattle.session.specs.declared.Verdict.the-variants as verdict
 use Rattle.session.specs.declared.Verdict.the-variants.{Taken, Wanted}
-use Rattle.session.specs.Session.{partsOf, isStart}
-use Rattle.session.specs.Verdicts.{ByItself}
+use Rattle.session.specs.Session.{isStart}
 use Rattle.first_record.specs.First.{orderIn}
 use Rattle.first_record.proofs.Checks.{first-number}
 use Rattle.judging.specs.Judge.{verdictOn}
+use Rattle.judging.specs.Laws.{RefusesOwn}
 use Rattle.judging.proofs.Laws.{judged-refusal}
 use Rattle.house.specs.declared.House.{House}
 use Rattle.house.specs.declared.Answered.{Answered}
@@ -201,10 +201,10 @@ module _ (h : House) (good : Good h) (rec : List ℕ) (low : Bytes rec) where
       → Stands order rec (standing (deliver h 0 rec .house))
   stands-after order leads done =
       let own = own-deliver h 0 (good .shape) (good .fine) (omega arith) rec low (good .opened) in
-      go v (roomFor h 0 v) (λ a is. judged-refusal s rec a is) leads (sym (ap numberOf (own .answer)) ∙ done)
+      go v (roomFor h 0 v) (judged-refusal s rec) leads (sym (ap numberOf (own .answer)) ∙ done)
       (own .stands)
     where
-      go : (u : Verdict) (room : Bool) → ((a : Answer) → u ≡ verdict.Refused a → ByItself (partsOf s) a)
+      go : (u : Verdict) (room : Bool) → RefusesOwn s u
           → Leads order s rec u → numberOf (answerBy u room) ≡ 0
           → slotAt (deliver h 0 rec .house) 0 ≡ nextSlot (slotAt h 0) u room
           → Stands order rec (standing (deliver h 0 rec .house))
