@@ -1,7 +1,7 @@
 -- A first record judged by itself is answered as one that is delivered to slot 0: nothing of the house decides but that
 -- it is sound.
 -- Assumes nothing.
-use mathlib.Core.Path.{_≡_, refl, ap, sym, subst, _∙_}
+use mathlib.Core.Path.{_≡_, refl, ap, _∙_}
 use mathlib.Core.Bool.{true, false}
 use mathlib.Core.List.{List}
 use Prim.Native.Nat.{ℕ}

@@ -12,7 +12,6 @@ use lib.Dec.{leb, eqb}
 use lib.ListN.{length, take, drop, length-drop}
 use lib.Seq.{getD-drop}
 use Rattle.prelude.proofs.Both.{both-left, both-right}
-use Rattle.answers.specs.declared.Answer.{Answer}
 use Rattle.answers.specs.declared.Answer.the-variants.{NotOneRecord}
 use Rattle.answers.specs.Numbers.{numberOf}
 use Rattle.numbers.specs.declared.Order.{Order}

@@ -2,12 +2,10 @@
 -- Assumes nothing.
 use mathlib.Core.Path.{ap, sym, _∙_}
 use mathlib.Core.Bool.{true, false}
-use Prim.Native.Nat.{_+_, _-_}
 use native.Mathlib.Omega.{arith}
-use lib.ListN.{take}
 use denote.Ref.{now}
 use borrow.Author.Needs.{needs}
-use Rattle.tallying.specs.Text.{reportLines, leftOver}
+use Rattle.tallying.specs.Text.{reportLines}
 use Rattle.following.specs.Lent.{streamHouse}
 use Rattle.tally_lines.proofs.Lines.{unfinished-most, put-as}
 use Rattle.tallying.proofs.Texts.{put-left, put-closing}
