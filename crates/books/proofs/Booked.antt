@@ -108,8 +108,7 @@ module _ (slot : ℕ) (b : Book) (h : House) (p : Agree slot b h) where
 
   -- any verdict that is
   agree-verdict : (rec : List ℕ) (v : Verdict) (o : Answered) → slotAt h slot .taken ≡ true → Own h slot v o
-      → RefusesOwn (slotAt h slot .session) v
-      → Booked b (slotAt h slot .session) rec v
+      → RefusesOwn (slotAt h slot .session) v → Booked b (slotAt h slot .session) rec v
       → numberOf (o .answer) ≡ 0 → Agree slot (noted rec b) (o .house)
   unfolding packed
   agree-verdict rec (Refused a) o t own refusal kept done =

@@ -9,10 +9,12 @@ use native.Mathlib.Omega.{arith}
 use borrow.Author.Tests.{eqb-true, le-ltb, ltb-true}
 use lib.Dec.{eqb, ltb}
 use lib.ListN.{length}
-use lib.Seq.{length-take-le}
 use Rattle.prelude.specs.Checks.{_else_, numberBy}
 use Rattle.prelude.specs.Each.{each}
+use Rattle.answers.specs.declared.Answer.{Answer}
+use Rattle.answers.specs.declared.Values.{Values}
 use Rattle.answers.specs.declared.Values.the-variants as values
+use Rattle.answers.specs.Numbers.{valuesOf}
 use Rattle.numbers.specs.Laws.{Bytes}
 use Rattle.frames.specs.Frames.{body}
 use Rattle.bodies.specs.Bodies.{readBody, saidOf}
@@ -20,10 +22,12 @@ use Rattle.rising.specs.Rising.{held}
 use Rattle.rising.proofs.Laws.{below-at}
 use Rattle.session.specs.declared.Session.{Session}
 use Rattle.session.specs.Session.{mostOpen, partOf, partHead, partSite, smallest, partsOf, isStart, sound}
+use Rattle.session.specs.Verdicts.{stillOpen}
 use Rattle.session.proofs.Laws.{sound-parts-told, smallest-held, smallest-least}
 use Rattle.session.proofs.Keys.{part-rises, part-gives}
 use Rattle.first_record.specs.Laws.{firstChecks}
 use Rattle.later_records.specs.Laws.{laterChecks}
+use Rattle.judging.proofs.Laws.{opened-long}
 use Rattle.rows.specs.Rows.{slotCount}
 use Rattle.house.specs.declared.House.{House}
 use Rattle.house.specs.House.{fresh}
@@ -31,8 +35,8 @@ use Rattle.house.specs.Calls.{slotAt}
 use Rattle.house.specs.History.{Call, Open, Deliver, Report, Close, Figured, reached, history, AllSent}
 use Rattle.house.proofs.Calling.{open-session}
 use Rattle.house.proofs.Keeping.{reached-sound}
-use Rattle.house.proofs.Counting.{reached-shaped}
-use Rattle.house.proofs.Rooms.{deliver-carries, plain-answer}
+use Rattle.house.proofs.Counting.{passed, reached-shaped}
+use Rattle.house.proofs.Rooms.{Refusals, deliver-carries, plain-answer}
 use Rattle.books.specs.Book.{Part, isOpen, leastOf, smallestOf, Book, kindIn, bookOf}
 use Rattle.books.specs.Told.{numberTold, valuesTold, recordChecks, roomTo, Smallest, ValuesTold, SmallestTold}
 use Rattle.books.proofs.Parts.{Low, number, open-low, least-open, least-low, least-first}
@@ -43,22 +47,22 @@ use Rattle.books.proofs.Spelling.{spares, never-given, own-spare}
 
 -- ---- the first of a session's parts
 
-module _ (b : Book) (s : Session) (p : Says b s) (long : length (s .parts) ≡ mostOpen) (e : sound s ≡ true) where
-  opened-long : length (partsOf s) ≡ s .standing .opened
-  opened-long = length-take-le (s .standing .opened) (s .parts) (omega (arith, sound-parts-told s e .few))
+-- what 12 carries, where a session has parts open
+abbrev carriedFor : Session → Values
+carriedFor s = valuesOf (stillOpen (partsOf s))
 
+module _ (b : Book) (s : Session) (p : Says b s) (long : length (s .parts) ≡ mostOpen) (e : sound s ≡ true) where
   abbrev first : ℕ
   first = smallest (partsOf s)
 
-  first-least : (q : Part) (qs : List Part) → b .parts ≡ q ∷ qs
-      → values.Part (partHead first) (partSite first) ≡ smallestOf (q ∷ qs)
+  first-least : (q : Part) (qs : List Part) → b .parts ≡ q ∷ qs → carriedFor s ≡ smallestOf (q ∷ qs)
   first-least q qs is =
       let least = leastOf q qs in
       let told = sound-parts-told s e in
       let low : Low (q ∷ qs) = subst Low is (p .low) in
       let says : (head site : ℕ) → site < 256 → isOpen (q ∷ qs) head site ≡ held (partOf head site) (partsOf s)
       = λ head site small. ap (λ (ps : List Part). isOpen ps head site) (sym is) ∙ p .parts head site small in
-      let some : 0 < length (partsOf s) = omega (arith, opened-long, p .opened, ap length is) in
+      let some : 0 < length (partsOf s) = omega (arith, opened-long s long e, p .opened, ap length is) in
       let small = least-low q qs low in
       let there : held (number least) (partsOf s) ≡ true =
       sym (says (least .head) (least .site) small) ∙ least-open q qs in
@@ -92,17 +96,15 @@ none-spare b rec room none = go (isStart (b .place))
         (own-spare 12 0 refl (isOpen []) (length (b .results)) (b .pcr) room
         (saidOf (readBody (b .order) (kindIn rec) (body rec))))
 
--- a check that the number is not of holds
-passed : (t : Bool) (x n m : ℕ) → (n ≡ m → ⊥) → cond t x n ≡ m → (t ≡ true) × (x ≡ m)
-passed true x n m other e = (refl, e)
-passed false x n m other e = absurd (other e)
-
 module _ (calls : List Call) (slot : ℕ) (rec : List ℕ) (sent : AllSent calls) (bytes : Bytes rec) where
   abbrev h : House
   h = reached fresh calls
 
   abbrev b : Book
   b = bookOf slot (history fresh calls)
+
+  abbrev s : Session
+  s = slotAt h slot .session
 
   abbrev room : Bool
   room = roomTo (history fresh calls) b rec
@@ -112,9 +114,7 @@ module _ (calls : List Call) (slot : ℕ) (rec : List ℕ) (sent : AllSent calls
         ≡ 12
     given = sym (deliver-told calls slot rec sent bytes) ∙ twelve
 
-    named : values.Part (partHead (smallest (partsOf (slotAt h slot .session))))
-        (partSite (smallest (partsOf (slotAt h slot .session))))
-        ≡ smallestOf (b .parts)
+    named : carriedFor s ≡ smallestOf (b .parts)
     named = go (b .parts) refl
       where
         inside : slot < slotCount
@@ -125,10 +125,7 @@ module _ (calls : List Call) (slot : ℕ) (rec : List ℕ) (sent : AllSent calls
             passed (b .opened) _ 2 12 (λ z. omega arith)
             (passed (ltb slot slotCount) _ 1 12 (λ z. omega arith) given .1) .0
 
-        go : (ps : List Part) → b .parts ≡ ps
-            → values.Part (partHead (smallest (partsOf (slotAt h slot .session))))
-            (partSite (smallest (partsOf (slotAt h slot .session))))
-            ≡ smallestOf ps
+        go : (ps : List Part) → b .parts ≡ ps → carriedFor s ≡ smallestOf ps
         go [] none =
             absurd
             (never-given 12
@@ -137,7 +134,7 @@ module _ (calls : List Call) (slot : ℕ) (rec : List ℕ) (sent : AllSent calls
         go (q ∷ qs) is =
             let agrees = book-agrees slot calls sent in
             let shape = reached-shaped calls sent in
-            first-least b (slotAt h slot .session) (agrees .says) (shape .parts slot inside)
+            first-least b s (agrees .says) (shape .parts slot inside)
             (open-session h slot (reached-sound calls sent) (shape .slots) inside (sym (agrees .opened) ∙ opened)) q qs is
 
   deliver-values : valuesTold calls (Deliver slot rec)
@@ -147,20 +144,21 @@ module _ (calls : List Call) (slot : ℕ) (rec : List ℕ) (sent : AllSent calls
       ∙ go (eqb (numberTold calls (Deliver slot rec)) 12) refl
     where
       go : (t : Bool) → eqb (numberTold calls (Deliver slot rec)) 12 ≡ t
-          → cond t
-          (values.Part (partHead (smallest (partsOf (slotAt h slot .session))))
-          (partSite (smallest (partsOf (slotAt h slot .session)))))
-          values.Nothing
-          ≡ cond t (smallestOf (b .parts)) values.Nothing
+          → cond t (carriedFor s) values.Nothing ≡ cond t (smallestOf (b .parts)) values.Nothing
       go true is = named (eqb-true (numberTold calls (Deliver slot rec)) 12 is)
       go false is = refl
 
+plain-told : (calls : List Call) → AllSent calls → (c : Call)
+    → Refusals (λ (a : Answer). valuesOf a ≡ values.Nothing) (reached fresh calls) c
+    → valuesTold calls c ≡ values.Nothing
+plain-told calls sent = plain-answer (reached fresh calls) (reached-sound calls sent)
+
 pub values-told : ValuesTold
 values-told calls (Deliver slot rec) sent bytes = deliver-values calls slot rec sent bytes
-values-told calls (Open slot floor) sent own = plain-answer (reached fresh calls) (reached-sound calls sent) (Open slot floor) tt
-values-told calls (Report slot long) sent own = plain-answer (reached fresh calls) (reached-sound calls sent) (Report slot long) tt
-values-told calls (Close slot) sent own = plain-answer (reached fresh calls) (reached-sound calls sent) (Close slot) tt
-values-told calls Figured sent own = plain-answer (reached fresh calls) (reached-sound calls sent) Figured tt
+values-told calls (Open slot floor) sent own = plain-told calls sent (Open slot floor) tt
+values-told calls (Report slot long) sent own = plain-told calls sent (Report slot long) tt
+values-told calls (Close slot) sent own = plain-told calls sent (Close slot) tt
+values-told calls Figured sent own = plain-told calls sent Figured tt
 
 -- ---- which part that is
 

@@ -141,8 +141,7 @@ module _ (slot : ℕ) (b : Book) (h : House) (p : Agree slot b h) (shape : Shape
       (ap₂ ltb owed-now free-now)
 
   room-told : (rec : List ℕ) (v : Verdict) → Booked b (slotAt h slot .session) rec v
-      → RefusesOwn (slotAt h slot .session) v → slot < slotCount
-      → slotAt h slot .taken ≡ true
+      → RefusesOwn (slotAt h slot .session) v → slot < slotCount → slotAt h slot .taken ≡ true
       → verdictNumber v ≡ 0 → roomFor h slot v ≡ rowFor free-is promised-is b (resultsIn (saidIn b rec))
   room-told rec (Refused a) kept own inside t done =
       absurd (false≢true (sym (own-number a (own a refl .0)) ∙ ap (λ (n : ℕ). eqb n 0) done))

@@ -96,10 +96,14 @@ agree-fresh slot =
 
 -- ---- one call more
 
--- of checks that all hold, each does
+-- a check whose number is not the one that is given holds, and those behind it give that
+pub passed : (t : Bool) (rest n m : ℕ) → (n ≡ m → ⊥) → cond t rest n ≡ m → (t ≡ true) × (rest ≡ m)
+passed true rest n m other e = (refl, e)
+passed false rest n m other e = absurd (other e)
+
+-- so of checks that all hold, each does
 pub holds : (t : Bool) (rest n : ℕ) → cond t rest (suc n) ≡ 0 → (t ≡ true) × (rest ≡ 0)
-holds true rest n e = (refl, e)
-holds false rest n e = absurd (omega (arith, e))
+holds t rest n e = passed t rest (suc n) 0 (λ z. omega (arith, z)) e
 
 module _ (slot : ℕ) (t : Heard) (h : House) (p : Agree slot t h) where
   -- a record that is accepted: where its session stands, and its rows

@@ -80,7 +80,7 @@ module _ (parts : List ℕ) (P : Verdict → Type 0) (refused : (a : Answer) →
 
 -- ---- a part opens and closes among the open ones
 
-opened-long : (s : Session) → length (s .parts) ≡ mostOpen → sound s ≡ true → length (partsOf s) ≡ s .standing .opened
+pub opened-long : (s : Session) → length (s .parts) ≡ mostOpen → sound s ≡ true → length (partsOf s) ≡ s .standing .opened
 opened-long s long e = length-take-le (s .standing .opened) (s .parts) (omega (arith, sound-parts-told s e .few))
 
 pub judged-settles : JudgedSettles
