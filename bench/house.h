@@ -4,7 +4,7 @@
 
 #include "stdf.h"
 
-enum { SLOTS = 16 };
+enum { SLOTS = 16, CARRY = 65539 };
 
 struct session {
     enum place place;
@@ -18,6 +18,7 @@ struct slot {
     bool taken;
     uint32_t floor;
     struct session session;
+    size_t held; // bytes of its stream that wait in the carry
 };
 
 struct house {
@@ -32,12 +33,20 @@ struct answered {
     struct house house;
 };
 
+struct fed {
+    int answer;
+    size_t taken;
+    struct house house;
+};
+
 struct figures {
     int answer;
     uint32_t free, promised;
 };
 
 struct answered deliver(struct house house, uint32_t slot, const uint8_t *rec, size_t length);
+struct fed feed(struct house house, uint32_t slot, uint8_t *carry, size_t room, const uint8_t *chunk, size_t length);
+int end_feed(struct house house, uint32_t slot);
 struct figures figures(struct house house);
 
 #endif

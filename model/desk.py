@@ -10,6 +10,7 @@ import sys
 
 SLOTS, ROWS, MOST_PARTS, MOST_RESULTS, MOST_BIN = 16, 1024, 32, 4294967295, 32767
 LONGEST_LINE, MOST_LENT = 140000, 4096
+CARRY, FIRST, HEADER = 65539, 6, 4
 COUNTED = "n"  # a C*n or B*n field: its first byte tells its length
 
 # the fields of each body that is read: required, then optional
@@ -93,6 +94,16 @@ class Session:
     def __init__(self, floor):
         self.floor, self.place, self.order = floor, "start", "little"
         self.parts, self.pcr, self.results, self.rows = set(), False, 0, {}
+        self.held = 0  # how many bytes the slot's carry holds: 0 in a slot just opened
+
+    def size(self, data, at):
+        """How long the record is that stands there, or None where it is not whole: the first has six bytes."""
+        size = FIRST
+        if self.place != "start":
+            if len(data) - at < HEADER:
+                return None
+            size = HEADER + int.from_bytes(data[at : at + 2], self.order)
+        return size if len(data) - at >= size else None
 
     def first(self, rec):
         if len(rec) < 4:
@@ -160,6 +171,7 @@ class Session:
 class House:
     def __init__(self):
         self.slots = [None] * SLOTS
+        self.carries = {}  # of each slot, the bytes that its last feed left in its carry
 
     def sessions(self):
         return [s for s in self.slots if s]
@@ -201,6 +213,29 @@ class House:
             return session.first(rec)
         return session.later(rec, self.free() > self.promised())
 
+    def feed(self, slot, length, chunk):
+        """The answer, and how many bytes of the chunk were taken: none past the refused record."""
+        refused = self.missing(slot) or (17 if length != CARRY else 0)
+        if refused:
+            return f"{refused} 0"
+        session = self.slots[slot]
+        before = session.held
+        data = self.carries.get(slot, b"")[:before] + chunk
+        at, answer, end = 0, 0, len(data)
+        while answer == 0 and (size := session.size(data, at)) is not None:
+            answer = self.deliver(slot, data[at : at + size])
+            if answer == 0:
+                at += size
+            else:  # the record stays, and with it what the carry held behind it
+                end = max(at + size, before)
+        self.carries[slot] = data[at:end]
+        session.held = end - at
+        assert session.held <= CARRY
+        return f"{answer} {end - before}"
+
+    def end(self, slot):
+        return self.missing(slot) or (3 if self.slots[slot].held else 0)
+
     def report(self, slot, length):
         refused = self.missing(slot)
         if refused:
@@ -224,6 +259,8 @@ HELP = """\
 # report SLOT LENGTH           N, or: 0 COUNT H/S/B=C H/S/B=C ..
 # close SLOT                   N
 # figures                      N, or: 0 FREE PROMISED
+# feed SLOT LENGTH HEX         N TAKEN, or: 12 HEAD SITE TAKEN
+# end SLOT                     N
 # write ORDER AT LENGTH HEX    N OUT, or: 0 BYTES OUT
 # read ORDER AT LENGTH HEX     N OUT, or: 0 BYTES OUT
 # help                         these lines"""
@@ -346,6 +383,10 @@ def answer(house, words):
         return house.report(number(given[0]), number(given[1]))
     if name == b"deliver" and len(given) == 2:
         return house.deliver(number(given[0]), hex_bytes(given[1]))
+    if name == b"feed" and len(given) == 3:
+        return house.feed(number(given[0]), number(given[1]), hex_bytes(given[2]))
+    if name == b"end" and len(given) == 1:
+        return house.end(number(given[0]))
     if name in (b"write", b"read") and len(given) == 4:
         order, at, length = map(number, given[:3])
         if length > MOST_LENT:

@@ -1,5 +1,6 @@
 -- The statements of specs/Numbers.antt, proved: slots above 15 are all refused alike, and so are floors above 1,024; all
--- lengths of 1,024 or more have room for a report. Orders above 2, and places past the end, are refused alike, too.
+-- lengths of 1,024 or more have room for a report, and none above 65,539 is a carry's. Orders above 2, and places past
+-- the end, are refused alike, too.
 -- Assumes nothing.
 use mathlib.Core.Path.{_≡_, refl, sym, ap, _∙_}
 use mathlib.Core.Bool.{Bool, true, false}
@@ -7,31 +8,35 @@ use mathlib.Core.List.{List, [], _∷_}
 use Prim.Native.Nat.{ℕ, _+_, _≤_, _<_}
 use native.Mathlib.Omega.{arith}
 use borrow.Author.Tests.{le-ltb, lt-leb, le-leb, ne-eqb}
-use lib.Dec.{ltb}
+use lib.Dec.{eqb, ltb}
 use lib.ListN.{length}
 use Rattle.prelude.specs.Choice.{_unless_then_}
 use Rattle.digits.specs.Digits.{decimal}
 use Rattle.numerals.specs.declared.Number.the-variants.{Is}
 use Rattle.numerals.specs.Decimals.{capped, mostNumber, numberOf}
 use Rattle.numerals.proofs.DecimalLaws.{capped-by, capped-low, capped-twice, number-is}
+use Rattle.answers.specs.declared.Answer.{Answer}
 use Rattle.answers.specs.declared.Answer.the-variants.{NotSound, NoSuchSlot, FloorTooHigh}
 use Rattle.rows.specs.Rows.{slotCount, heldBy}
 use Rattle.house.specs.declared.House.{House}
 use Rattle.house.specs.declared.Answered.{Answered}
-use Rattle.house.specs.House.{rowCount, keysOf, sound}
+use Rattle.house.specs.House.{rowCount, carryLength, keysOf, sound}
 use Rattle.house.specs.Calls.{slotAt, refusal, openSlot, deliver, closeSlot}
 use Rattle.house.specs.declared.Reported.{Reported}
 use Rattle.house.specs.Report.{unreported, rowAt, rowsOf, reported, listed}
 use Rattle.house.specs.History.{Report, Reply, Told, Listed, reply}
+use Rattle.house.specs.Feeding.{endFeed}
 use Rattle.house.proofs.Reporting.{rows-few}
+use Rattle.nights.specs.Night as nights
+use Rattle.nights.specs.Night.{Night, Replied, Took, Ended, Next, night, nextAs, feedNext}
 use Rattle.numbers.specs.Orders.{orderOf}
 use Rattle.output.specs.Placed.{Outcome, Making, Makes, Refuses, placedAt, placed}
 use Rattle.lines.specs.Writing.{textIn}
 use Rattle.lines.specs.Reading.{recordIn}
 use Rattle.asking.specs.declared.Way.{Way}
 use Rattle.asking.specs.declared.Way.the-variants.{Write, Read}
-use Rattle.asking.specs.Asks.{Word, inFour, orderByte, longest, lined, asks}
-use Rattle.any_numbers.specs.Numbers.{Digits, AnyOpen, AnyDeliver, AnyReport, AnyClose}
+use Rattle.asking.specs.Asks.{Word, inFour, orderByte, mostLent, longest, lined, asks}
+use Rattle.any_numbers.specs.Numbers.{Digits, AnyOpen, AnyDeliver, AnyReport, AnyClose, AnyFeed, AnyEnd}
 use Rattle.any_numbers.specs.Numbers.{verbFor, called, outcomesOf, AnyLine}
 
 -- ---- numbers past a limit are answered alike
@@ -71,6 +76,22 @@ module _ (h : House) (slot : ℕ) (far : slotCount ≤ slot) where
   report-far long =
       ap (told h slot) (reported-far long)
       ∙ ap (λ (n : ℕ). Listed (noReport h .answer) (listed (rowAt h slot) n)) (no-rows (sound h))
+
+  end-far : endFeed h slot ≡ (NotSound unless sound h then NoSuchSlot)
+  unfolding endFeed
+  end-far = rw (le-ltb slot slotCount far)
+
+feed-far : (n : Night) (slot long : ℕ) (chunk : List ℕ) → slotCount ≤ slot
+    → feedNext n slot long chunk
+    ≡ (nextAs (Took NotSound 0) n unless sound (n .house) then nextAs (Took NoSuchSlot 0) n)
+unfolding feedNext
+feed-far n slot long chunk far = rw (le-ltb slot slotCount far)
+
+-- of a length it counts only whether it is a carry's
+feed-long : (n : Night) (slot a b : ℕ) (chunk : List ℕ) → eqb a carryLength ≡ eqb b carryLength
+    → feedNext n slot a chunk ≡ feedNext n slot b chunk
+unfolding feedNext
+feed-long n slot a b chunk e = rw e
 
 open-high : (h : House) (slot floor : ℕ) → rowCount < floor
     → openSlot h slot floor
@@ -130,6 +151,23 @@ module _ (h : House) (slot : ℕ) where
       ∙ capped-by mostNumber long (λ (k : ℕ). reply h (Report slot k) ≡ reply h (Report slot long)) (λ low. refl)
       (λ high. ap (told h slot) (report-long h slot mostNumber long (omega arith) (omega (arith, high))))
 
+  end-capped : endFeed h (inFour slot) ≡ endFeed h slot
+  end-capped =
+      slot-capped (λ (k : ℕ). endFeed h k) (NotSound unless sound h then NoSuchSlot) (λ k far. end-far h k far) slot
+
+lent-capped : (long : ℕ) → eqb (capped mostLent long) carryLength ≡ eqb long carryLength
+lent-capped long =
+    capped-by mostLent long (λ (k : ℕ). eqb k carryLength ≡ eqb long carryLength) (λ low. refl)
+    (λ high. sym (ne-eqb long carryLength (λ e. omega (arith, high, e))))
+
+feed-capped : (n : Night) (slot long : ℕ) (chunk : List ℕ)
+    → feedNext n (inFour slot) (capped mostLent long) chunk ≡ feedNext n slot long chunk
+feed-capped n slot long chunk =
+    feed-long n (inFour slot) (capped mostLent long) long chunk (lent-capped long)
+    ∙ slot-capped (λ (k : ℕ). feedNext n k long chunk)
+    (nextAs (Took NotSound 0) n unless sound (n .house) then nextAs (Took NoSuchSlot 0) n)
+    (λ k far. feed-far n k long chunk far) slot
+
 -- ---- the words of a line
 
 digits-is : (w : Word) → Digits w → numberOf w ≡ Is (capped mostNumber (decimal w))
@@ -138,29 +176,48 @@ digits-is w d = sym (number-is w (d .some) (d .each-one))
 in-four : (n : ℕ) → inFour (capped mostNumber n) ≡ inFour n
 in-four n = capped-twice four mostNumber n (omega arith)
 
-abbrev answers : Answered → List Reply
-answers o = Told (o .answer) ∷ []
+in-lent : (n : ℕ) → capped mostLent (capped mostNumber n) ≡ capped mostLent n
+in-lent n = capped-twice mostLent mostNumber n (omega arith)
+
+module _ (n : Night) where
+  abbrev answers : Answered → List nights.Reply
+  answers o = Replied (Told (o .answer)) ∷ []
+
+  -- a call of the house touches no carry
+  abbrev leaves : Answered → Night
+  leaves o = night (o .house) (n .carries)
 
 pub any-open : AnyOpen
-any-open h slot floor rec ds df =
-    let e = open-capped h (decimal slot) (decimal floor) in
+any-open n slot floor bytes ds df =
+    let e = open-capped (n .house) (decimal slot) (decimal floor) in
     rw (digits-is slot ds, digits-is floor df, in-four (decimal slot), in-four (decimal floor))
-    (ap answers e, ap (λ (o : Answered). o .house) e)
+    (ap (answers n) e, ap (leaves n) e)
 
 pub any-deliver : AnyDeliver
-any-deliver h slot hex rec ds bytes =
-    let e = deliver-capped h (decimal slot) rec in
-    rw (digits-is slot ds, bytes, in-four (decimal slot)) (ap answers e, ap (λ (o : Answered). o .house) e)
+any-deliver n slot hex bytes ds is =
+    let e = deliver-capped (n .house) (decimal slot) bytes in
+    rw (digits-is slot ds, is, in-four (decimal slot)) (ap (answers n) e, ap (leaves n) e)
 
 pub any-report : AnyReport
-any-report h slot long rec ds dl =
+any-report n slot long bytes ds dl =
     rw (digits-is slot ds, digits-is long dl, in-four (decimal slot))
-    (ap (λ (r : Reply). r ∷ []) (report-capped h (decimal slot) (decimal long)), refl)
+    (ap (λ (r : Reply). Replied r ∷ []) (report-capped (n .house) (decimal slot) (decimal long)), refl)
 
 pub any-close : AnyClose
-any-close h slot rec ds =
-    let e = close-capped h (decimal slot) in
-    rw (digits-is slot ds, in-four (decimal slot)) (ap answers e, ap (λ (o : Answered). o .house) e)
+any-close n slot bytes ds =
+    let e = close-capped (n .house) (decimal slot) in
+    rw (digits-is slot ds, in-four (decimal slot)) (ap (answers n) e, ap (leaves n) e)
+
+pub any-feed : AnyFeed
+any-feed n slot long hex bytes ds dl is =
+    let e = feed-capped n (decimal slot) (decimal long) bytes in
+    rw (digits-is slot ds, digits-is long dl, is, in-four (decimal slot), in-lent (decimal long))
+    (ap (λ (x : Next). x .reply ∷ []) e, ap (λ (x : Next). x .night) e)
+
+pub any-end : AnyEnd
+any-end n slot bytes ds =
+    rw (digits-is slot ds, in-four (decimal slot))
+    (ap (λ (a : Answer). Ended a ∷ []) (end-capped (n .house) (decimal slot)), refl)
 
 -- ---- count lines
 

@@ -55,6 +55,20 @@ abbrev pub delivering : Number → Bool → Asked
 delivering (Is slot) hex = NoCall unless hex then Play (call.Deliver (inFour slot))
 delivering Not hex = NoCall
 
+abbrev pub ending : Number → Asked
+ending (Is slot) = Play (call.End (inFour slot))
+ending Not = NoCall
+
+-- #102: a carry that is lent has 65,539 bytes. The desk has one byte more for each slot, and lends all of them where a
+-- greater length is asked for: it is a wrong one, too, and refused with the same.
+abbrev pub mostLent : ℕ
+mostLent = 65_540
+
+abbrev pub feeding : Number → Number → Bool → Asked
+feeding (Is slot) (Is long) hex = NoCall unless hex then Play (call.Feed (inFour slot) (capped mostLent long))
+feeding (Is slot) Not hex = NoCall
+feeding Not long hex = NoCall
+
 -- the longest output that is lent; no output that is lent has the greatest number for a place in it
 abbrev pub longest : ℕ
 longest = 4096
@@ -85,6 +99,13 @@ two ask (a ∷ []) = NoCall
 two ask (a ∷ b ∷ []) = ask a b
 two ask (a ∷ b ∷ c ∷ ws) = NoCall
 
+abbrev pub three : (Word → Word → Word → Asked) → List Word → Asked
+three ask [] = NoCall
+three ask (a ∷ []) = NoCall
+three ask (a ∷ b ∷ []) = NoCall
+three ask (a ∷ b ∷ c ∷ []) = ask a b c
+three ask (a ∷ b ∷ c ∷ d ∷ ws) = NoCall
+
 abbrev pub four : (Word → Word → Word → Word → Asked) → List Word → Asked
 four ask [] = NoCall
 four ask (a ∷ []) = NoCall
@@ -104,6 +125,8 @@ asks verb.Deliver ws = two (λ slot hex. delivering (numberOf slot) (isBytes hex
 asks verb.Report ws = two (λ slot long. reporting (numberOf slot) (numberOf long)) ws
 asks verb.Close ws = one (λ slot. closing (numberOf slot)) ws
 asks verb.Figures ws = none (Play call.Figures) ws
+asks verb.Feed ws = three (λ slot long hex. feeding (numberOf slot) (numberOf long) (isBytes hex)) ws
+asks verb.End ws = one (λ slot. ending (numberOf slot)) ws
 asks verb.Write ws = four (lined way.Write) ws
 asks verb.Read ws = four (lined way.Read) ws
 asks verb.Help ws = none Help ws

@@ -6,6 +6,8 @@ mod lines;
 use asked_calls::Call;
 use houses::close_asked;
 use houses::deliver_asked;
+use houses::end_asked;
+use houses::feed_asked;
 use houses::open_asked;
 use houses::report_asked;
 use lines::line_asked;
@@ -22,8 +24,8 @@ pub enum Way {
     Read,
 }
 
-// What a line asks for. The bytes that a delivery or a count line's call hands over are beside it, as a record's are
-// beside its call.
+// What a line asks for. The bytes that a delivery, a feed or a count line's call hands over are beside it, as a record's
+// are beside its call.
 pub enum Asked {
     Nothing,
     Comment,
@@ -50,6 +52,7 @@ pub fn ask_one(verb: Verb, word: &[u8]) -> Asked
 {
     match verb {
         Verb::Close => close_asked(number_of(word)),
+        Verb::End => end_asked(number_of(word)),
         _ => Asked::NoCall,
     }
 }
@@ -62,6 +65,15 @@ pub fn ask_two(verb: Verb, first: &[u8], second: &[u8]) -> Asked
         Verb::Open => open_asked(slot, number_of(second)),
         Verb::Deliver => deliver_asked(slot, is_bytes(second)),
         Verb::Report => report_asked(slot, number_of(second)),
+        _ => Asked::NoCall,
+    }
+}
+
+pub fn ask_three(verb: Verb, first: &[u8], second: &[u8], third: &[u8]) -> Asked
+    ensures { λ r. ⌜ r ≡ asks verb (now (first .entry) ∷ now (second .entry) ∷ now (third .entry) ∷ []) ⌝ }
+{
+    match verb {
+        Verb::Feed => feed_asked(number_of(first), number_of(second), is_bytes(third)),
         _ => Asked::NoCall,
     }
 }

@@ -27,6 +27,7 @@ fn held() -> House {
         taken: true,
         floor: 1024,
         session,
+        held: 0,
     };
     h.keys = rising_keys();
     h.counts = [1u64; 1024];

@@ -77,7 +77,7 @@ agree-fresh slot =
 
 -- a slot that stands as one just opened or closed, and holds no row
 agree-anew : (slot : ℕ) (g : House) (taken : Bool) (floor : ℕ)
-    → slotAt g slot ≡ record { taken = taken; floor = floor; session = begun } → rowsAt g slot ≡ []
+    → slotAt g slot ≡ record { taken = taken; floor = floor; session = begun; held = 0 } → rowsAt g slot ≡ []
     → (taken ≡ false → floor ≡ 0) → Agree slot (book taken floor) g
 unfolding packed
 agree-anew slot g taken floor stands none shut =
@@ -94,7 +94,13 @@ agree-anew slot g taken floor stands none shut =
 module _ (slot : ℕ) (b : Book) (h : House) (p : Agree slot b h) where
   -- a record that is accepted
   agree-by : (rec : List ℕ) (g : House) (next : Session) (rows : List Count) → slotAt h slot .taken ≡ true
-      → slotAt g slot ≡ record { taken = slotAt h slot .taken; floor = slotAt h slot .floor; session = next }
+      → slotAt g slot
+      ≡ record {
+        taken = slotAt h slot .taken;
+        floor = slotAt h slot .floor;
+        session = next;
+        held = slotAt h slot .held;
+      }
       → Says (noted rec b) next → rowsAt g slot ≡ rows → packed (resultsIn (saidIn b rec) ++ b .results) ≡ rows
       → Agree slot (noted rec b) g
   agree-by rec g next rows t stands says rows-now counts =

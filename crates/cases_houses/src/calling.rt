@@ -6,6 +6,8 @@ use calls::figures;
 use calls::open_slot;
 use case_lines::say_values;
 use deliveries::deliver;
+use feeding::end_feed;
+use feeding::feed;
 use house::House;
 use reports::judge_report;
 use transcript::say;
@@ -48,6 +50,16 @@ pub(crate) fn say_calls(h: House) {
     ];
     say_values(b" open |, deliver |, report |, close |", values);
     say_figures(h);
+}
+
+// An empty chunk fed to slot 0 over a carry of noughts, and the end of feeding there.
+pub(crate) fn say_fed(h: House) {
+    let mut carry = [0u8; House::CARRY];
+    let fed = feed(h, 0, &mut carry, b"");
+    let feeding = fed.answer;
+    let ending = end_feed(h, 0);
+    let values = [wide(feeding), fed.taken as u64, wide(ending), 0, 0, 0, 0, 0];
+    say_values(b" feed |, taken |, end |\n", values);
 }
 
 pub(crate) fn say_delivered(h: House, rec: &[u8]) {

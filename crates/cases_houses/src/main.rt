@@ -12,13 +12,17 @@
 //     calls                       what Open of slot 15 with floor 0, Deliver of nothing to slot 0, Report and Close of
 //                                 slot 0, and Figures answer
 //     deliver RECORD              what Deliver to slot 0 answers
+//     held SLOT COUNT             sets how many bytes of a slot's carry are held, four bytes (#102)
+//     pour                        what a feed of no byte to slot 0, over a carry of noughts, and the end of feeding answer
 mod calling;
 mod setting;
 
 use calling::say_calls;
 use calling::say_delivered;
+use calling::say_fed;
 use case_lines::next_call;
 use house::House;
+use setting::with_held;
 use setting::with_keys;
 use setting::with_rows;
 use setting::with_slot;
@@ -30,6 +34,7 @@ fn ask(house: House, verb: u8, bytes: &[u8]) {
         0 => {}
         b'c' => say_calls(house),
         b'd' => say_delivered(house, bytes),
+        b'p' => say_fed(house),
         _ => say(b"?\n"),
     }
 }
@@ -41,6 +46,7 @@ fn play(house: House, verb: u8, bytes: &[u8]) -> House {
         b's' => with_slot(house, bytes),
         b'r' => with_rows(house, bytes),
         b'k' => with_keys(house, bytes),
+        b'h' => with_held(house, bytes),
         _ => {
             ask(house, verb, bytes);
             house

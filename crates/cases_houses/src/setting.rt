@@ -18,9 +18,28 @@ pub(crate) fn with_slot(house: House, bytes: &[u8]) -> House {
         taken: byte_at(bytes, 1) == 1,
         floor: four_at(bytes, 2),
         session,
+        held: 0,
     };
     let mut next = house;
     next.slots[n] = slot;
+    next
+}
+
+// So many bytes held for a slot.
+pub(crate) fn with_held(house: House, bytes: &[u8]) -> House {
+    let n = byte_at(bytes, 0) as usize;
+    if 15 < n {
+        return house;
+    }
+    let mut next = house;
+    let s = next.slots[n];
+    let session = s.session;
+    next.slots[n] = Slot {
+        taken: s.taken,
+        floor: s.floor,
+        session,
+        held: four_at(bytes, 1) as usize,
+    };
     next
 }
 

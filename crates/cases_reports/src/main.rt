@@ -45,6 +45,7 @@ fn open(results: u32) -> Slot {
         taken: true,
         floor: 0,
         session,
+        held: 0,
     }
 }
 

@@ -1,14 +1,14 @@
 -- Laws of how long a record is, and the statements of specs/Laws.antt on records cut by their headers, proved.
 -- Assumes nothing.
-use mathlib.Core.Path.{_≡_, refl, ap, sym, _∙_}
-use mathlib.Core.Bool.{Bool, true, false}
+use mathlib.Core.Path.{_≡_, refl, ap, sym, subst, _∙_}
+use mathlib.Core.Bool.{Bool, true, false, _&&_}
 use mathlib.Core.List.{List, [], _∷_, _++_, append-assoc, append-nil}
 use Prim.Native.Nat.{ℕ, zero, suc, _+_, _≤_, _<_}
 use native.Mathlib.Omega.{arith}
-use borrow.Author.Tests.{lt-ltb, le-ltb, ltb-true, ltb-false, le-leb, lt-leb}
-use lib.Dec.{ltb}
+use borrow.Author.Tests.{lt-ltb, le-ltb, ltb-true, ltb-false, le-leb, lt-leb, leb-true, leb-false}
+use lib.Dec.{leb, ltb}
 use lib.ListN.{length, getD, take, drop, length-append, take-append-drop, List·getD-append}
-use lib.Seq.{take-suc, length-take-le}
+use lib.Seq.{take-suc, take-length, length-take-le}
 use Rattle.numbers.specs.declared.Order.{Order}
 use Rattle.numbers.specs.Laws.{Bytes}
 use Rattle.numbers.specs.Numbers.{front}
@@ -17,9 +17,10 @@ use Rattle.frames.specs.Frames.{header, recLen}
 use Rattle.session.specs.declared.Standing.{Standing}
 use Rattle.session.specs.Session.{isStart}
 use Rattle.cutting.specs.Needed.{firstLength, longest, needed, cut}
-use Rattle.cutting.specs.Walk.{Heard, Turned, Machine, Walked, Waits, judged, took, walked, cutting}
-use Rattle.cutting.specs.Laws.{CutWaits, CutAlone, CutHeard, CutLong, NeededMost}
-use Rattle.cutting.proofs.Walks.{walked-append, walked-stops}
+use Rattle.cutting.specs.Walk.{Heard, Kept, Turned, Machine, Walked, Waits, Stops, judged, pushed, took, walked}
+use Rattle.cutting.specs.Walk.{cutting, allFit}
+use Rattle.cutting.specs.Laws.{CutWaits, CutAlone, CutHeard, CutFits, CutLong, Framed, CutFramed, NeededMost}
+use Rattle.cutting.proofs.Walks.{walked-append, walked-stops, fit-append, fit-again}
 
 -- ---- how long a record is
 
@@ -113,6 +114,18 @@ module _ (most : ℕ) (st : Standing) (bytes : List ℕ) where
       go false e = omega (arith, cut-record (ltb-false most (needed st bytes) e), needed-some st bytes)
 
 module _ (most : ℕ) (st : Standing) (takes : firstLength ≤ most) where
+  pub cut-most : (bytes : List ℕ) → cut most st bytes ≤ most
+  cut-most bytes = go (ltb most (needed st bytes)) refl
+    where
+      go : (a : Bool) → ltb most (needed st bytes) ≡ a → cut most st bytes ≤ most
+      go true e = omega (arith, cut-header most st bytes (ltb-true most (needed st bytes) e), takes)
+      go false e =
+          omega (
+            arith,
+            cut-record most st bytes (ltb-false most (needed st bytes) e),
+            ltb-false most (needed st bytes) e,
+          )
+
   cut-first : (bytes : List ℕ) → isStart (st .place) ≡ true → cut most st bytes ≡ firstLength
   cut-first bytes e =
       let first = needed-first st bytes e in
@@ -147,6 +160,16 @@ module _ (most : ℕ) (st : Standing) (takes : firstLength ≤ most) where
       go true e = cut-first ys e ∙ sym (cut-first (ys ++ ts) e) ∙ sym is
       go false e =
           sym (cut-same ys ts e (omega (arith, is, cut-some most st (ys ++ ts)))) ∙ sym is
+
+  -- bytes too few for what they tell are too few for what they begin
+  front-grows : (ys ts : List ℕ) → length ys < cut most st ys → length ys < cut most st (ys ++ ts)
+  front-grows ys ts short = go (isStart (st .place)) refl (ltb (length ys) header) refl
+    where
+      go : (a : Bool) → isStart (st .place) ≡ a → (b : Bool) → ltb (length ys) header ≡ b
+          → length ys < cut most st (ys ++ ts)
+      go true e b f = omega (arith, cut-first ys e, cut-first (ys ++ ts) e, short)
+      go false e true f = omega (arith, cut-some most st (ys ++ ts), ltb-true (length ys) header f)
+      go false e false f = omega (arith, cut-same ys ts e (ltb-false (length ys) header f), short)
 
 -- ---- the walk over records cut so
 
@@ -188,6 +211,22 @@ module _ (S F : Type 0) (stand : S → Standing) (most : ℕ) (long : F) (hear :
       ∙ ap (λ (w : Walked S F). took m w z)
       (waits [] ys (z ∷ ts) (rw (← on) (omega (arith, is, length-append ys (z ∷ [])))))
       ∙ took-whole ys z (whole-cut most (stand s) takes (ys ++ z ∷ []) ts is)
+
+  -- .. and it is tested when it is whole, and not before
+  one-fits : (fits : S → List ℕ → Bool) (ys : List ℕ) (z : ℕ)
+      → length (ys ++ z ∷ []) ≡ cut most (stand s) (ys ++ z ∷ [])
+      → allFit m fits (Waits s []) (ys ++ z ∷ []) ≡ fits s (ys ++ z ∷ [])
+  unfolding allFit
+  one-fits fits ys z is =
+      let front : walked m (Waits s []) ys ≡ Waits s ys =
+      waits [] ys (z ∷ []) (omega (arith, is, length-append ys (z ∷ []))) in
+      let whole = le-leb (cut most (stand s) (ys ++ z ∷ [])) (length (ys ++ z ∷ [])) (omega (arith, is)) in
+      fit-append S F m fits (Waits s []) ys (z ∷ [])
+      ∙ rw (fit-again S F m fits s s ys ys front, front, whole) (and-true (fits s (ys ++ z ∷ [])))
+    where
+      and-true : (b : Bool) → (b && true) ≡ b
+      and-true true = refl
+      and-true false = refl
 
   -- what is judged at once is heard
   cut-one : (bytes : List ℕ) (n : ℕ) → n ≡ cut most (stand s) bytes → n ≤ length bytes
@@ -270,6 +309,20 @@ cut-alone S F stand most long hear s bytes takes low there =
     cut-one S F stand most long hear s takes bytes n (sym (cut-record most (stand s) bytes low)) there
     ∙ ap (λ (v : Heard S F). judged v s (take n bytes)) (heard-record S F stand most long hear s takes bytes low there)
 
+pub cut-fits : CutFits
+cut-fits S F stand most long hear fits s r takes low is = go (length r) refl
+  where
+    go : (n : ℕ) → length r ≡ n → allFit (cutting stand most long hear) fits (Waits s []) r ≡ fits s r
+    go zero e = absurd (omega (arith, e, is, needed-some (stand s) r))
+    go (suc i) e =
+        let front : r ≡ take i r ++ getD r i 0 ∷ [] =
+        sym (take-length r) ∙ ap (λ (k : ℕ). take k r) e ∙ take-suc r i 0 (omega (arith, e)) in
+        let whole : length r ≡ cut most (stand s) r =
+        sym is ∙ sym (cut-record most (stand s) r (omega (arith, is, low))) in
+        subst (λ (x : List ℕ). allFit (cutting stand most long hear) fits (Waits s []) x ≡ fits s x) (sym front)
+        (one-fits S F stand most long hear s takes fits (take i r) (getD r i 0)
+        (subst (λ (x : List ℕ). length x ≡ cut most (stand s) x) front whole))
+
 pub cut-heard : CutHeard
 cut-heard S F stand most long hear s bytes takes low there =
     behind S F stand most long hear s takes bytes (needed (stand s) bytes)
@@ -287,3 +340,36 @@ cut-long S F stand most long hear s bytes takes over =
     ∙ ap (λ (v : Heard S F). judged v s (take n bytes))
     (ap (λ (k : ℕ). m .hear s (take k bytes)) head ∙ heard-long S F stand most long hear s takes bytes over))
     ∙ walked-stops S F m s (take n bytes) long [] (drop n bytes)
+
+-- ---- what waits, and what stops a walk
+
+module _ (S F : Type 0) (stand : S → Standing) (most : ℕ) (long : F) (hear : S → List ℕ → Heard S F)
+    (takes : firstLength ≤ most) where
+  took-framed : (w : Walked S F) (b : ℕ) → Framed stand most w
+      → Framed stand most (took (cutting stand most long hear) w b)
+  took-framed (Waits s part) b h =
+      let r = part ++ b ∷ [] in
+      go (leb (cut most (stand s) r) (length r)) refl (cutting stand most long hear .hear s r)
+    where
+      go : (a : Bool) → leb (cut most (stand s) (part ++ b ∷ [])) (length (part ++ b ∷ [])) ≡ a → (v : Heard S F)
+          → Framed stand most (pushed a v s (part ++ b ∷ []))
+      go false e v = leb-false (cut most (stand s) (part ++ b ∷ [])) (length (part ++ b ∷ [])) e
+      go true e (Kept t) = omega (arith, cut-some most (stand t) [])
+      go true e (Turned f) =
+          omega (
+            arith,
+            front-grows most (stand s) takes part (b ∷ []) h,
+            leb-true (cut most (stand s) (part ++ b ∷ [])) (length (part ++ b ∷ [])) e,
+            length-append part (b ∷ []),
+          )
+  took-framed (Stops s r f rest) b h = h
+
+  framed : (w : Walked S F) (bs : List ℕ) → Framed stand most w
+      → Framed stand most (walked (cutting stand most long hear) w bs)
+  unfolding walked
+  framed w [] h = h
+  framed w (b ∷ bs) h = framed (took (cutting stand most long hear) w b) bs (took-framed w b h)
+
+pub cut-framed : CutFramed
+cut-framed S F stand most long hear s bytes takes =
+    framed S F stand most long hear takes (Waits s []) bytes (omega (arith, cut-some most (stand s) []))

@@ -8,8 +8,9 @@
 --   cutting    the machine whose records are as long as their headers say
 --   records    the records judged as bytes are walked;  accepted  those of them that were kept
 --   heardAll   records heard one after the other, up to the first that is not kept
+--   allFit     whether each record that is judged passes a test
 -- Assumes nothing.
-use mathlib.Core.Bool.{Bool, true, false, cond}
+use mathlib.Core.Bool.{Bool, true, false, cond, _&&_}
 use mathlib.Core.List.{List, [], _∷_, _++_}
 use Prim.Native.Nat.{ℕ}
 use lib.Dec.{leb, ltb}
@@ -113,3 +114,13 @@ behind (Stops s r f rest) = rest
 abbrev pub stateOf : {S F : Type 0} → Walked S F → S
 stateOf (Waits s part) = s
 stateOf (Stops s r f rest) = s
+
+-- ---- whether each record that is judged passes a test of it, in the state in which it is judged
+
+abbrev pub fitsAt : {S F : Type 0} → Machine S F → (S → List ℕ → Bool) → Walked S F → ℕ → Bool
+fitsAt m fits (Waits s part) b = cond (m .whole s (part ++ b ∷ [])) (fits s (part ++ b ∷ [])) true
+fitsAt m fits (Stops s r f rest) b = true
+
+unfoldable pub allFit : {S F : Type 0} → Machine S F → (S → List ℕ → Bool) → Walked S F → List ℕ → Bool
+allFit m fits w [] = true
+allFit m fits w (b ∷ bs) = fitsAt m fits w b && allFit m fits (took m w b) bs

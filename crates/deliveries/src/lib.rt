@@ -68,6 +68,7 @@ fn settle_to(house: House, owed: u32, i: usize, s: Slot, verdict: Verdict) -> An
                 taken: s.taken,
                 floor: s.floor,
                 session: next,
+                held: s.held,
             };
             answer_with(Answer::Done, h)
         }
@@ -112,6 +113,7 @@ fn settle_rows(house: House, owed: u32, i: usize, s: Slot, verdict: Verdict) -> 
         taken: s.taken,
         floor: s.floor,
         session: next,
+        held: s.held,
     };
     let laid = House {
         keys,

@@ -1,5 +1,6 @@
-// Each line of standard input: read, played, said. The longest call delivers 65,539 bytes; a longer line is no call,
-// and is passed over.
+// Each line of standard input: read, played, said. A line has room for a record of 65,539 bytes, delivered or fed; a
+// longer one is no call, and is passed over.
+use crate::carries::all_carries;
 use crate::help::say_help;
 use crate::house_calls::house_call;
 use asking::Asked;
@@ -38,13 +39,16 @@ fn answer_alone(asked: Asked, line: &[u8], bytes: &[u8]) {
     }
 }
 
-fn answer_asked(house: House, asked: Asked, line: &[u8], bytes: &[u8]) -> House {
+// A fresh house says that no carry holds a byte, and so what stands in them is forgotten.
+fn answer_asked(house: House, asked: Asked, line: &[u8], bytes: &[u8], carries: &mut [u8]) -> House
+    requires { ⌜ length (now carries) ≡ 1048640 ⌝ }
+{
     match asked {
         Asked::Fresh => {
             say(b"0\n");
             House::fresh()
         }
-        Asked::Play(call) => house_call(house, call, bytes),
+        Asked::Play(call) => house_call(house, call, bytes, carries),
         _ => {
             answer_alone(asked, line, bytes);
             house
@@ -66,12 +70,14 @@ fn request_of(found: Found, line: &mut [u8]) -> Request
 }
 
 // One line, without its LF. The bytes that it hands over stand at its start then.
-fn answer_line(house: House, found: Found, line: &mut [u8]) -> House {
+fn answer_line(house: House, found: Found, line: &mut [u8], carries: &mut [u8]) -> House
+    requires { ⌜ length (now carries) ≡ 1048640 ⌝ }
+{
     let read = request_of(found, line);
     let n = read.bytes;
     let asked = read.asked;
     let all = &line[..];
-    answer_asked(house, asked, all, &all[0..n])
+    answer_asked(house, asked, all, &all[0..n], carries)
 }
 
 fn has_ended(found: Found) -> bool {
@@ -88,6 +94,8 @@ pub(crate) fn answer_all() {
     let chunk: &mut [u8] = &mut read;
     let mut space = line_buffer();
     let line: &mut [u8] = &mut space;
+    let mut lent = all_carries();
+    let carries: &mut [u8] = &mut lent;
     let mut house = House::fresh();
     let mut input = input::begin();
     let mut turns = u64::MAX;
@@ -99,7 +107,7 @@ pub(crate) fn answer_all() {
         if has_ended(found) {
             return;
         }
-        house = answer_line(house, found, &mut line[0..long]);
+        house = answer_line(house, found, &mut line[0..long], carries);
         input = behind;
         turns -= 1;
     }

@@ -9,6 +9,8 @@ pub(crate) fn say_help() {
         # report SLOT LENGTH           N, or: 0 COUNT H/S/B=C H/S/B=C ..\n\
         # close SLOT                   N\n\
         # figures                      N, or: 0 FREE PROMISED\n\
+        # feed SLOT LENGTH HEX         N TAKEN, or: 12 HEAD SITE TAKEN\n\
+        # end SLOT                     N\n\
         # write ORDER AT LENGTH HEX    N OUT, or: 0 BYTES OUT\n\
         # read ORDER AT LENGTH HEX     N OUT, or: 0 BYTES OUT\n\
         # help                         these lines\n",

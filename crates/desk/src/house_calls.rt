@@ -1,5 +1,6 @@
 // A call on the house, played, and what is written of what came back. A report is over a slice of LENGTH rows; no
 // report has more than 1,024, so a longer one is as good as one of 1,024.
+use crate::carries::part_for;
 use answers::Answer;
 use asked_calls::Call;
 use house::House;
@@ -8,7 +9,9 @@ use plays::play;
 use transcript::say;
 use transcript::say_answer;
 use transcript::say_number;
+ghost use mathlib.Core.Path.{_≡_};
 ghost use Prim.Native.Nat.{_≤_};
+ghost use lib.ListN.{length};
 
 fn say_row(row: Row) {
     say(b" ");
@@ -52,6 +55,17 @@ fn say_found(call: Call, free: u32, promised: u32, count: usize, rows: [Row; 102
     }
 }
 
+// How many bytes of its chunk a feed took, whatever it is answered.
+fn say_taken(call: Call, taken: usize) {
+    match call {
+        Call::Feed(_, _) => {
+            say(b" ");
+            say_number(taken as u64);
+        }
+        _ => say(b""),
+    }
+}
+
 fn say_played(call: Call, answer: Answer, free: u32, promised: u32, count: usize, rows: [Row; 1024])
     requires { ⌜ count ≤ 1024 ⌝ }
 {
@@ -59,13 +73,19 @@ fn say_played(call: Call, answer: Answer, free: u32, promised: u32, count: usize
     if answers::number(answer) == 0 {
         say_found(call, free, promised, count, rows);
     }
-    say(b"\n");
 }
 
-pub(crate) fn house_call(house: House, call: Call, rec: &[u8]) -> House {
-    let done = play(house, call, rec);
+pub(crate) fn house_call(house: House, call: Call, bytes: &[u8], carries: &mut [u8]) -> House
+    requires { ⌜ length (now carries) ≡ 1048640 ⌝ }
+{
+    let part = part_for(call);
+    let from = part.from;
+    let end = from + part.long;
+    let done = play(house, call, bytes, &mut carries[from..end]);
     let answer = done.answer;
     let rows = done.rows;
     say_played(call, answer, done.free, done.promised, done.count, rows);
+    say_taken(call, done.taken);
+    say(b"\n");
     done.house
 }

@@ -26,8 +26,8 @@ use Rattle.house.proofs.Calling.{deliver-judged, lent-to, open-done}
 use Rattle.house.proofs.Keeping.{deliver-keeps, after-shaped, open-keeps, fresh-sound, fresh-shaped}
 use Rattle.cutting.specs.Needed.{needed, cut}
 use Rattle.cutting.specs.Walk.{Heard, Kept, Turned, Walked, Waits, Stops, walked, stateOf}
-use Rattle.cutting.specs.Laws.{HeardLike, WalkLike, Likeness}
-use Rattle.cutting.proofs.Walks.{walked-like}
+use Rattle.cutting.specs.Laws.{HeardLike, WalkLike, Same, Likeness, always}
+use Rattle.cutting.proofs.Walks.{walked-ever}
 use Rattle.walking.specs.declared.Stop.{Stop}
 use Rattle.walking.specs.declared.Stop.the-variants.{Refused, TooLong}
 use Rattle.walking.specs.declared.Fate.the-variants.{Going}
@@ -87,7 +87,7 @@ pub record Like (p : walking.Progress) (q : Reached) : Type 0 where
   pub fine : sound (aloneHouse (p .core)) ≡ true
 
 heard-alike : (c : Core) (k : ℕ) (rec : List ℕ) → Bytes rec → Shaped (aloneHouse c) → sound (aloneHouse c) ≡ true
-    → HeardLike Like (walking.heard k (delivered aloneRoom c rec)) (heard k (deliver (aloneHouse c) 0 rec))
+    → HeardLike Like Same (walking.heard k (delivered aloneRoom c rec)) (heard k (deliver (aloneHouse c) 0 rec))
 unfolding walking.heard heard
 heard-alike c k rec bytes shape fine =
     rw (deliver-alone c shape fine rec)
@@ -95,25 +95,26 @@ heard-alike c k rec bytes shape fine =
     (eqb (numberOf (delivered aloneRoom c rec .answer)) 0))
   where
     go : (o : Outcome) → Shaped (aloneHouse (o .core)) → sound (aloneHouse (o .core)) ≡ true → (t : Bool)
-        → HeardLike Like (cond t (Kept (walking.progress (o .core) (k + 1))) (Turned (Refused (o .answer))))
+        → HeardLike Like Same (cond t (Kept (walking.progress (o .core) (k + 1))) (Turned (Refused (o .answer))))
         (cond t (Kept (reached (aloneHouse (o .core)) (k + 1))) (Turned (Refused (o .answer))))
     go o shaped sounds true = record { is = refl; shape = shaped; fine = sounds }
     go o shaped sounds false = refl
 
-long-alike : (t : Bool) (x : Heard walking.Progress Stop) (y : Heard Reached Stop) → HeardLike Like x y
-    → HeardLike Like (cond t (Turned TooLong) x) (cond t (Turned TooLong) y)
+long-alike : (t : Bool) (x : Heard walking.Progress Stop) (y : Heard Reached Stop) → HeardLike Like Same x y
+    → HeardLike Like Same (cond t (Turned TooLong) x) (cond t (Turned TooLong) y)
 long-alike true x y h = refl
 long-alike false x y h = h
 
-likeness : Likeness walking.Progress Reached Stop (delivering aloneRoom mostLength) hearing Like
+likeness : Likeness walking.Progress Reached Stop Stop (delivering aloneRoom mostLength) hearing always always Like Same
 likeness =
     record {
       whole-like = λ p q r l.
           ap (λ (x : Reached). leb (cut mostLength (standing (x .house)) r) (length r)) (sym (l .is));
-      hear-like = λ p q r bytes l.
+      fits-like = λ p q r bytes l. refl;
+      hear-like = λ p q r bytes l passes.
           subst
           (λ (x : Reached).
-          HeardLike Like
+          HeardLike Like Same
           (cond (ltb mostLength (needed (p .core .standing) r)) (Turned TooLong)
           (walking.heard (p .accepted) (delivered aloneRoom (p .core) r)))
           (cond (ltb mostLength (needed (standing (x .house)) r)) (Turned TooLong)
@@ -127,10 +128,10 @@ likeness =
 
 module _ (c : Core) (k : ℕ) (shape : Shaped (aloneHouse c)) (fine : sound (aloneHouse c) ≡ true) where
   pub stream-alike : (bytes : List ℕ) → Bytes bytes
-      → WalkLike Like (walked (delivering aloneRoom mostLength) (Waits (walking.progress c k) []) bytes)
+      → WalkLike Like Same (walked (delivering aloneRoom mostLength) (Waits (walking.progress c k) []) bytes)
       (walked hearing (Waits (reached (aloneHouse c) k) []) bytes)
   stream-alike bytes low =
-      walked-like walking.Progress Reached Stop (delivering aloneRoom mostLength) hearing Like likeness
+      walked-ever walking.Progress Reached Stop Stop (delivering aloneRoom mostLength) hearing Like Same likeness
       (walking.progress c k) (reached (aloneHouse c) k) bytes low
       (record { is = refl; shape = shape; fine = fine })
 
@@ -142,7 +143,7 @@ module _ (c : Core) (k : ℕ) (shape : Shaped (aloneHouse c)) (fine : sound (alo
       lent : (p : walking.Progress) (q : Reached) → Like p q → LentTo aloneRoom p
       lent p q l = lent-alone (p .core) (l .shape) (l .fine) (p .accepted)
 
-      go : (w : Walked walking.Progress Stop) (v : Walked Reached Stop) → WalkLike Like w v
+      go : (w : Walked walking.Progress Stop) (v : Walked Reached Stop) → WalkLike Like Same w v
           → LentTo aloneRoom (stateOf w)
       go (Waits p part) (Waits q other) l = lent p q (l .0)
       go (Waits p part) (Stops q r f rest) l = absurd l

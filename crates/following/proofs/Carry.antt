@@ -1,14 +1,12 @@
--- Laws of a chunk: how the bytes of an unfinished record come to the front, and what is followed from chunk to chunk.
+-- Laws of a chunk: what is followed from chunk to chunk.
 -- Assumes nothing.
 use mathlib.Core.Path.{_≡_, refl, ap, sym, subst, _∙_}
 use mathlib.Core.Bool.{true}
-use mathlib.Core.List.{List, [], _∷_}
-use Prim.Native.Nat.{ℕ, zero, suc, _+_, _-_, _≤_, _<_}
-use native.Mathlib.Nat.{add-comm}
-use native.Mathlib.Numerals.{add-one}
+use mathlib.Core.List.{List, []}
+use Prim.Native.Nat.{ℕ, _+_, _-_, _≤_, _<_}
 use native.Mathlib.Omega.{arith}
-use lib.ListN.{length, getD, take, drop, set, length-drop, length-set}
-use lib.Seq.{take-suc, take-suc-set, drop-set-lt, drop-drop, getD-drop, take-add, length-take-le, take-nil}
+use lib.ListN.{length, take, drop, length-drop}
+use lib.Seq.{take-add, length-take-le}
 use Rattle.numbers.specs.Laws.{Bytes}
 use Rattle.session.specs.declared.Standing.{Standing}
 use Rattle.session.specs.Session.{mostOpen}
@@ -17,8 +15,9 @@ use Rattle.house.specs.House.{rowCount, sound}
 use Rattle.house.specs.Deliver.{Core, core}
 use Rattle.house.specs.Laws.{Shaped}
 use Rattle.cutting.specs.Walk.{Walked, Waits, Stops, walked, behind}
-use Rattle.cutting.specs.Laws.{WalkLike}
+use Rattle.cutting.specs.Laws.{WalkLike, Same}
 use Rattle.cutting.proofs.Walks.{walked-append, walked-stops, walked-again}
+use Rattle.cutting.proofs.Moves.{drop-take}
 use Rattle.walking.specs.declared.Stop.{Stop}
 use Rattle.walking.specs.declared.Fate.{Fate}
 use Rattle.walking.specs.declared.Fate.the-variants.{Going, Stopped}
@@ -32,61 +31,6 @@ use Rattle.following.specs.Following.{resumedBy, followed}
 use Rattle.following.specs.Lent.{aloneHouse, aloneRoom, streamCore, streamHouse, progressOf, staged, keptFrom}
 use Rattle.following.specs.Lent.{Right, Followed}
 use Rattle.following.proofs.Alone.{alone-shaped, Like, stream-alike, lendable}
-
--- ---- bytes moved to the front
-
--- the first i bytes are those from `at` on, and the bytes behind them as they were
-pub record Moved (at : ℕ) (old new : List ℕ) (i : ℕ) : Type 0 where
-  pub long : length new ≡ length old
-  pub front : take i new ≡ take i (drop at old)
-  pub back : drop i new ≡ drop i old
-
-pub moved-none : (at : ℕ) (old : List ℕ) → Moved at old old 0
-moved-none at old = record { long = refl; front = refl; back = refl }
-
-pub moved-on : (at : ℕ) (old new : List ℕ) (i : ℕ) → at + i < length old → Moved at old new i
-    → Moved at old (set new i (getD new (at + i) 0)) (i + 1)
-moved-on at old new i inside m =
-    let v = getD new (at + i) 0 in
-    let here : i < length new = omega (arith, m .long, inside) in
-    let there : i < length (drop at old) = omega (arith, length-drop at old, inside) in
-    let same : getD new (at + i) 0 ≡ getD old (at + i) 0 =
-    ap (λ (k : ℕ). getD new k 0) (add-comm at i)
-    ∙ sym (getD-drop i new at 0)
-    ∙ ap (λ (l : List ℕ). getD l at 0) (m .back)
-    ∙ getD-drop i old at 0
-    ∙ ap (λ (k : ℕ). getD old k 0) (add-comm i at) in
-    record {
-      long = length-set new i v ∙ m .long;
-      front =
-          rw (
-            add-one i,
-            take-suc-set new i v here,
-            take-suc (drop at old) i 0 there,
-            getD-drop at old i 0,
-            m .front,
-            same,
-          );
-      back =
-          ap (λ (k : ℕ). drop k (set new i v)) (add-one i)
-          ∙ drop-set-lt (suc i) new i v (omega arith)
-          ∙ ap (λ (k : ℕ). drop k new) (sym (add-one i))
-          ∙ sym (drop-drop 1 i new)
-          ∙ ap (λ (l : List ℕ). drop 1 l) (m .back)
-          ∙ drop-drop 1 i old;
-    }
-
-drop-take : (a e : ℕ) (l : List ℕ) → drop a (take e l) ≡ take (e - a) (drop a l)
-drop-take zero e l = let all : e - 0 ≡ e = omega arith in rw all
-drop-take (suc a) zero l = let none : 0 - suc a ≡ 0 = omega arith in rw none
-drop-take (suc a) (suc e) [] = sym (take-nil (suc e - suc a))
-drop-take (suc a) (suc e) (x ∷ xs) =
-    let less : suc e - suc a ≡ e - a = omega arith in
-    drop-take a e xs ∙ rw less
-
--- the part `&l[0..n]`
-pub front-part : (n : ℕ) (l : List ℕ) → take (n - 0) l ≡ take n l
-front-part n l = let all : n - 0 ≡ n = omega arith in rw all
 
 -- what has stopped does not go on
 never-going : {why : Stop} → Stopped why ≡ Going → ⊥
@@ -148,7 +92,7 @@ record Landed (fate : Fate) (p : walking.Progress) (left : List ℕ) (v : Walked
   waits : fate ≡ Going → v ≡ Waits (reached (aloneHouse (p .core)) (p .accepted)) left
 
 landed : (fate : Fate) (p : walking.Progress) (left : List ℕ) (v : Walked Reached Stop)
-    → WalkLike Like (endsBy fate mostLength p left) v → Landed fate p left v
+    → WalkLike Like Same (endsBy fate mostLength p left) v → Landed fate p left v
 landed Going p left (Waits q other) l =
     let same : _≡_ {A = Walked Reached Stop} (Waits q other) (Waits (reached (aloneHouse (p .core)) (p .accepted)) left)
     = rw (l .0 .is, l .1) in
@@ -220,7 +164,7 @@ module _ (s : Stream) (buf : List ℕ) (got : ℕ) (right : Right s buf) (goes :
       lands : Landed fate (walking.progress c k) (drop at bytes) here
       lands =
           landed fate (walking.progress c k) (drop at bytes) here
-          (subst (λ (w : Walked walking.Progress Stop). WalkLike Like w here) (sym is)
+          (subst (λ (w : Walked walking.Progress Stop). WalkLike Like Same w here) (sym is)
           (stream-alike (streamCore s) (s .accepted) shape (right .fine)
           bytes range))
 

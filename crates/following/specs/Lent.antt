@@ -33,6 +33,7 @@ aloneHouse c =
             taken = true;
             floor = rowCount;
             session = record { standing = c .standing; parts = c .parts };
+            held = 0;
           } ∷
           replicate 15 closedSlot;
     }

@@ -1,6 +1,7 @@
 // A stream, chunk by chunk. The bytes of an unfinished record stay at the front of the buffer, and the next chunk is
 // read behind them: no chunk is copied.
 use crate::Stream;
+use cutting::keep;
 use house::House;
 use house::Room;
 use session::Session;
@@ -10,8 +11,8 @@ use walking::standing_of;
 use walking::walk;
 ghost use mathlib.Core.Path.{_≡_};
 ghost use mathlib.Core.Bool.{true};
-ghost use Prim.Native.Nat.{_+_, _-_, _≤_};
-ghost use lib.ListN.{length, take, drop};
+ghost use Prim.Native.Nat.{_+_, _≤_};
+ghost use lib.ListN.{length};
 ghost use Rattle.walking.specs.declared.Fate.the-variants.{Going};
 ghost use Rattle.walking.specs.Lent.{pastCount};
 ghost use Rattle.following.specs.Lent.{aloneRoom, keptFrom, Right, Begun, Followed};
@@ -48,20 +49,6 @@ pub fn begin() -> Stream
         fate: Fate::Going,
         held: 0,
     }
-}
-
-// Moves the bytes from `at` to before `end` to the front.
-fn keep(buf: &mut [u8], at: usize, end: usize) -> usize
-    requires { ⌜ (at ≤ end) × (end ≤ length (now buf)) ⌝ }
-    ensures { λ r. ⌜ (r ≡ end - at) × (take r (now (buf .exit)) ≡ take r (drop at (now (buf .entry)))) ⌝ }
-{
-    let n = end - at;
-    let mut i: usize = 0;
-    while i < n {
-        buf[i] = buf[at + i];
-        i += 1;
-    }
-    n
 }
 
 // Where the bytes begin that are held for the next chunk: none is, once the stream has stopped.

@@ -47,7 +47,7 @@ use Rattle.house.proofs.Refusing.{open-number}
 -- ---- with a house to itself
 
 -- what an open session is answered, and how it stands after it, by itself: a part result gets its row
-abbrev aloneReply : Slot → List Count → Call → Reply
+abbrev pub aloneReply : Slot → List Count → Call → Reply
 aloneReply s rows (Open i floor) = Told (cond (leb floor rowCount) SlotTaken FloorTooHigh)
 aloneReply s rows (Deliver i rec) = Told (answerBy (verdictOn (s .session) rec) true)
 aloneReply s rows (Report i long) =
@@ -55,14 +55,14 @@ aloneReply s rows (Report i long) =
 aloneReply s rows (Close i) = Told Done
 aloneReply s rows Figured = Told Done
 
-abbrev aloneSlot : Slot → Call → Slot
+abbrev pub aloneSlot : Slot → Call → Slot
 aloneSlot s (Open i floor) = s
 aloneSlot s (Deliver i rec) = nextSlot s (verdictOn (s .session) rec) true
 aloneSlot s (Report i long) = s
 aloneSlot s (Close i) = closedSlot
 aloneSlot s Figured = s
 
-abbrev aloneRows : Slot → List Count → Call → List Count
+abbrev pub aloneRows : Slot → List Count → Call → List Count
 aloneRows s rows (Open i floor) = rows
 aloneRows s rows (Deliver i rec) = rowsAfter rows (verdictOn (s .session) rec) true
 aloneRows s rows (Report i long) = rows
@@ -70,12 +70,12 @@ aloneRows s rows (Close i) = []
 aloneRows s rows Figured = rows
 
 -- the rows that it needs
-abbrev aloneAsks : List Count → Verdict → ℕ
+abbrev pub aloneAsks : List Count → Verdict → ℕ
 aloneAsks rows (Refused a) = 0
 aloneAsks rows (Taken change) = 0
 aloneAsks rows (Wanted change key) = cond (has key rows) 0 1
 
-abbrev aloneNeeds : Slot → List Count → Call → ℕ
+abbrev pub aloneNeeds : Slot → List Count → Call → ℕ
 aloneNeeds s rows (Open i floor) = length rows
 aloneNeeds s rows (Deliver i rec) = length rows + aloneAsks rows (verdictOn (s .session) rec)
 aloneNeeds s rows (Report i long) = length rows
@@ -97,7 +97,7 @@ module _ (h : House) (slot : ℕ) (shape : Shaped h) (e : sound h ≡ true) wher
       let low = key-low key (right .0) in
       rw (rows-has slot (keysOf h) (countsOf h) key (paired h slot shape e) (omega (arith, low)))
 
-  needs-told : (c : Call) → Sent c → needs h slot c ≡ aloneNeeds (slotAt h slot) (rowsAt h slot) c
+  pub needs-told : (c : Call) → Sent c → needs h slot c ≡ aloneNeeds (slotAt h slot) (rowsAt h slot) c
   needs-told (Open i floor) sent = sym (rows-held h slot shape e)
   needs-told (Deliver i rec) sent =
       let s = slotAt h slot .session in
@@ -121,7 +121,7 @@ module _ (h : House) (slot : ℕ) (shape : Shaped h) (e : sound h ≡ true) wher
           granted-below (roomOf h slot) (keysOf h) (rowKey slot key) (omega (arith, wide))
 
   module _ (t : slotAt h slot .taken ≡ true) where
-    inside : slot < slotCount
+    pub inside : slot < slotCount
     inside = omega (arith, open-within (h .slots) slot t, shape .slots)
 
     alone-open : (floor : ℕ) → Alone h slot (Open slot floor)
@@ -177,7 +177,7 @@ module _ (h : House) (slot : ℕ) (shape : Shaped h) (e : sound h ≡ true) wher
         let o = own-close h slot shape e inside t in
         record { answer = rw (e, lt-ltb slot slotCount inside, t); stands = o .0; rows = o .1 }
 
-    alone : (c : Call) → Sent c → names slot c ≡ true → needs h slot c ≤ slotAt h slot .floor → Alone h slot c
+    pub alone : (c : Call) → Sent c → names slot c ≡ true → needs h slot c ≤ slotAt h slot .floor → Alone h slot c
     alone (Open i floor) sent own within =
         let same = eqb-true i slot own in
         subst (λ (j : ℕ). Alone h slot (Open j floor)) (sym same) (alone-open floor)
@@ -262,27 +262,29 @@ assured-alike slot (c ∷ cs) h g sent a sh sg eh eg =
 -- ---- two histories
 
 -- a slot just opened stands the same in every house
+module _ (slot floor : ℕ) (h : House) (shape : Shaped h) (e : sound h ≡ true)
+    (done : openSlot h slot floor .answer ≡ Done) where
+  pub begins : (slot < slotCount)
+      × (slotAt (openSlot h slot floor .house) slot ≡ openedSlot floor)
+      × (rowsAt (openSlot h slot floor .house) slot ≡ [])
+  begins =
+      let fine = holds (sound h) _ 14 (sym (open-number h slot floor) ∙ ap numberOf done) in
+      let within = holds (ltb slot slotCount) _ 0 (fine .1) in
+      let low = holds (leb floor rowCount) _ 15 (within .1) in
+      let new = holds (not (slotAt h slot .taken)) _ 1 (low .1) in
+      let wide = holds (leb floor (free h - house.promised h)) _ 12 (new .1) in
+      let shut = not-true (slotAt h slot .taken) (new .0) in
+      let there = ltb-true slot slotCount (within .0) in
+      let o = own-open h slot shape e there floor (low .0) shut (wide .0) in
+      (there, o .0, o .1 ∙ shut-rows h slot shape e shut)
+
 opened-alike : (slot floor : ℕ) (h g : House) → Shaped h → Shaped g → sound h ≡ true → sound g ≡ true
     → openSlot h slot floor .answer ≡ Done → openSlot g slot floor .answer ≡ Done
     → Alike slot (openSlot h slot floor .house) (openSlot g slot floor .house)
 opened-alike slot floor h g sh sg eh eg dh dg =
-    let p = begins h sh eh dh in
-    let q = begins g sg eg dg in
-    record { stands = p .0 ∙ sym (q .0); rows = p .1 ∙ sym (q .1) }
-  where
-    begins : (x : House) → Shaped x → sound x ≡ true → openSlot x slot floor .answer ≡ Done
-        → (slotAt (openSlot x slot floor .house) slot ≡ openedSlot floor)
-        × (rowsAt (openSlot x slot floor .house) slot ≡ [])
-    begins x sx ex done =
-        let fine = holds (sound x) _ 14 (sym (open-number x slot floor) ∙ ap numberOf done) in
-        let inside = holds (ltb slot slotCount) _ 0 (fine .1) in
-        let low = holds (leb floor rowCount) _ 15 (inside .1) in
-        let new = holds (not (slotAt x slot .taken)) _ 1 (low .1) in
-        let wide = holds (leb floor (free x - house.promised x)) _ 12 (new .1) in
-        let shut = not-true (slotAt x slot .taken) (new .0) in
-        let there = ltb-true slot slotCount (inside .0) in
-        let o = own-open x slot sx ex there floor (low .0) shut (wide .0) in
-        (o .0, o .1 ∙ shut-rows x slot sx ex shut)
+    let p = begins slot floor h sh eh dh in
+    let q = begins slot floor g sg eg dg in
+    record { stands = p .1 ∙ sym (q .1); rows = p .2 ∙ sym (q .2) }
 
 pub isolated : Isolated
 isolated past other slot floor cs ds sp so sc sd granted-past granted-other same =

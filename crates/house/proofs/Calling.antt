@@ -32,9 +32,9 @@ use Rattle.judging.specs.Judge.{verdictOn}
 use Rattle.house.specs.declared.Slot.{Slot}
 use Rattle.house.specs.declared.House.{House}
 use Rattle.house.specs.declared.Room.{Room}
-use Rattle.house.specs.House.{rowCount, noSlot, closedSlot, openedSlot, keysOf, countsOf, free, unfilled}
-use Rattle.house.specs.House.{promisedFrom, promised, takenOf, rowsSound, openConditions, slotSound, slotsSound}
-use Rattle.house.specs.House.{conditions, sound, Lent}
+use Rattle.house.specs.House.{rowCount, carryLength, noSlot, closedSlot, openedSlot, keysOf, countsOf, free}
+use Rattle.house.specs.House.{unfilled, promisedFrom, promised, takenOf, rowsSound, openConditions, slotSound}
+use Rattle.house.specs.House.{slotsSound, conditions, sound, Lent}
 use Rattle.house.specs.Deliver.{Outcome, core, settled, pastCounts, LentCore}
 use Rattle.house.specs.Calls.{slotAt, withSlot, answered, openChecks, openSlot, slotChecks, closeSlot, roomIn}
 use Rattle.house.specs.Calls.{roomOf, coreOf, deliveredTo, settledTo, withOutcome, deliver, figuresOf}
@@ -68,6 +68,7 @@ module _ (h : House) (e : sound h ≡ true) where
 
 pub record OpenSlot (i : ℕ) (s : Slot) (keys counts : List ℕ) : Type 0 where
   pub floor : s .floor ≤ rowCount
+  pub carry : s .held ≤ carryLength
   pub session : session.sound (s .session) ≡ true
   pub few : s .session .standing .results ≤ mostResults
   pub sum : sumBy i keys counts ≡ s .session .standing .results
@@ -80,9 +81,10 @@ open-told i s keys counts t e =
     let at = all-at (openConditions i s keys counts) all in
     record {
       floor = leb-true (s .floor) rowCount (at 0);
-      session = at 1;
-      few = leb-true (s .session .standing .results) mostResults (at 2);
-      sum = eqb-true (sumBy i keys counts) (s .session .standing .results) (at 3);
+      carry = leb-true (s .held) carryLength (at 1);
+      session = at 2;
+      few = leb-true (s .session .standing .results) mostResults (at 3);
+      sum = eqb-true (sumBy i keys counts) (s .session .standing .results) (at 4);
     }
 
 pub slots-at : (k : ℕ) (slots : List Slot) (keys counts : List ℕ) (j : ℕ) (none : Slot)
@@ -360,6 +362,7 @@ module _ (h : House) (slot : ℕ) {s : Slot} {room : Room} (is : s ≡ slotAt h 
               taken = s .taken;
               floor = s .floor;
               session = record { standing = o .core .standing; parts = o .core .parts };
+              held = s .held;
             });
       })
       ≡ withOutcome h slot (settledTo h slot v)
@@ -382,7 +385,8 @@ module _ (h : House) (slot : ℕ) {v : Verdict} where
 
   pub laid-taken : {s : Slot} → s ≡ slotAt h slot → {change : Change} → v ≡ Taken change → (next : Session)
       → next ≡ changed (s .session) change
-      → answered answer.Done (withSlot h slot (record { taken = s .taken; floor = s .floor; session = next }))
+      → answered answer.Done
+      (withSlot h slot (record { taken = s .taken; floor = s .floor; session = next; held = s .held }))
       ≡ withOutcome h slot (settledTo h slot v)
   laid-taken is {change} e next then =
       let after : next ≡ changed (slotAt h slot .session) change = rw (← is) then in

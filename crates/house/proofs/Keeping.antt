@@ -36,8 +36,9 @@ use Rattle.judging.proofs.Laws.{judged-sound, judged-counts, judged-few, judged
 use Rattle.house.specs.declared.Slot.{Slot}
 use Rattle.house.specs.declared.House.{House}
 use Rattle.house.specs.declared.Answered.{Answered}
-use Rattle.house.specs.House.{rowCount, noSlot, closedSlot, openedSlot, fresh, keysOf, countsOf, free, unfilled}
-use Rattle.house.specs.House.{promisedFrom, promised, takenOf, rowsSound, slotSound, slotsSound, sound}
+use Rattle.house.specs.House.{rowCount, carryLength, noSlot, closedSlot, openedSlot, fresh, keysOf, countsOf}
+use Rattle.house.specs.House.{free, unfilled, promisedFrom, promised, takenOf, rowsSound, slotSound, slotsSound}
+use Rattle.house.specs.House.{sound}
 use Rattle.house.specs.Deliver.{granted, rowTaken, resultedIf, settled}
 use Rattle.house.specs.Deliver.{delivered, LentCore}
 use Rattle.house.specs.Calls.{refusal, openChecks, slotChecks}
@@ -54,20 +55,21 @@ use Rattle.house.proofs.Reporting.{told-rises}
 
 -- ---- what makes a house sound
 
-sound-by : (h : House) → h .used ≤ rowCount → rising (keysOf h) ≡ true
+pub sound-by : (h : House) → h .used ≤ rowCount → rising (keysOf h) ≡ true
     → rowsRight (takenOf (h .slots)) (keysOf h) (countsOf h) ≡ true
     → slotsSound 0 (h .slots) (keysOf h) (countsOf h) ≡ true → promised h ≤ free h → sound h ≡ true
 unfolding sound rowsSound
 sound-by h within rises right slots rooms =
     rw (le-leb (h .used) rowCount within, rises, right, slots, le-leb (promised h) (free h) rooms)
 
-slot-right : (i : ℕ) (s : Slot) (keys counts : List ℕ) → s .taken ≡ true → OpenSlot i s keys counts
+pub slot-right : (i : ℕ) (s : Slot) (keys counts : List ℕ) → s .taken ≡ true → OpenSlot i s keys counts
     → slotSound i s keys counts ≡ true
 unfolding slotSound
 slot-right i s keys counts t o =
     rw (
       t,
       le-leb (s .floor) rowCount (o .floor),
+      le-leb (s .held) carryLength (o .carry),
       o .session,
       le-leb (s .session .standing .results) mostResults (o .few),
       eq-eqb (sumBy i keys counts) (s .session .standing .results) (o .sum),
@@ -135,7 +137,7 @@ unfolding slotsSound
 slots-over keys counts k [] = refl
 slots-over keys counts k (s ∷ ss) = rw (slots-over keys counts (suc k) ss)
 
-slots-one : (keys counts ks cs : List ℕ) (slots : List Slot) (i : ℕ) (s : Slot) → i < length slots
+pub slots-one : (keys counts ks cs : List ℕ) (slots : List Slot) (i : ℕ) (s : Slot) → i < length slots
     → ((j : ℕ) → (j ≡ i → ⊥) → sumBy j ks cs ≡ sumBy j keys counts) → slotsSound 0 slots keys counts ≡ true
     → slotSound i s ks cs ≡ true → slotsSound 0 (set slots i s) ks cs ≡ true
 unfolding slotSound
@@ -159,7 +161,7 @@ unfolding promisedFrom
 promised-over keys k [] = refl
 promised-over keys k (s ∷ ss) = rw (promised-over keys (suc k) ss)
 
-promised-one : (keys ks : List ℕ) (slots : List Slot) (i : ℕ) (s : Slot) → i < length slots
+pub promised-one : (keys ks : List ℕ) (slots : List Slot) (i : ℕ) (s : Slot) → i < length slots
     → ((j : ℕ) → (j ≡ i → ⊥) → heldBy j ks ≡ heldBy j keys)
     → promisedFrom 0 (set slots i s) ks + unfilled i (getD slots i noSlot) keys
     ≡ promisedFrom 0 slots keys + unfilled i s ks
@@ -211,7 +213,7 @@ module _ (h : House) (slot : ℕ) (shape : Shaped h) (e : sound h ≡ true) (ins
       List·getD-map (λ (s : Slot). s .taken) (h .slots) slot noSlot ∙ shut in
       let none = closed-none (takenOf (h .slots)) keys counts slot (told-right h e) shut-there in
       let right : OpenSlot slot s keys counts =
-      record { floor = low; session = begun-sound; few = omega arith; sum = none .1 } in
+      record { floor = low; carry = omega arith; session = begun-sound; few = omega arith; sum = none .1 } in
       sound-by (withSlot h slot s) (told-within h e) (told-rises h e)
       (rw (taken-set (h .slots) slot s) (right-open (takenOf (h .slots)) keys counts slot (told-right h e)))
       (slots-one keys counts keys counts (h .slots) slot s there (λ j g. refl) (told-slots h e)
@@ -264,7 +266,7 @@ close-keeps h slot shape e =
 
 -- what a slot's session becomes, its rows as they were
 abbrev pub withSession : Slot → Session → Slot
-withSession s ses = record { taken = s .taken; floor = s .floor; session = ses }
+withSession s ses = record { taken = s .taken; floor = s .floor; session = ses; held = s .held }
 
 -- a row's key: its slot, its head and its bin
 pub key-low : (key : ℕ) → key / 65536 < pastParts → key < 4_278_190_080
@@ -279,7 +281,7 @@ key-head slot key h = omega (arith, h)
 key-bin : (slot key : ℕ) → key % 65536 ≤ mostBin → binOf (rowKey slot key) ≤ mostBin
 key-bin slot key h = omega (arith, h)
 
-unfilled-open : (i : ℕ) (s : Slot) (keys : List ℕ) → s .taken ≡ true → unfilled i s keys ≡ s .floor - heldBy i keys
+pub unfilled-open : (i : ℕ) (s : Slot) (keys : List ℕ) → s .taken ≡ true → unfilled i s keys ≡ s .floor - heldBy i keys
 unfolding unfilled
 unfilled-open i s keys t = rw t
 
@@ -316,6 +318,7 @@ module _ (h : House) (slot : ℕ) (shape : Shaped h) (e : sound h ≡ true) (ins
       let right : OpenSlot slot next keys counts =
       record {
         floor = told .floor;
+        carry = told .carry;
         session = fine;
         few = omega (arith, told .few, same);
         sum = told .sum ∙ sym same;
@@ -460,6 +463,7 @@ module _ (h : House) (slot : ℕ) (shape : Shaped h) (e : sound h ≡ true) (ins
         let opened : OpenSlot slot next (keysUsed rows) (countsUsed rows) =
         record {
           floor = told .floor;
+          carry = told .carry;
           session = fine;
           few = few;
           sum = omega (arith, own-sum, told .sum, more);
@@ -532,7 +536,7 @@ fresh-shaped = record { keys = refl; counts = refl; slots = refl; parts = closed
     closed-at (suc n) (suc i) h = closed-at n i (omega arith)
 
 -- other rows, as many, and another slot with as many parts
-shaped-by : (h : House) (ks cs : List ℕ) (n slot : ℕ) (s : Slot) → Shaped h → length ks ≡ rowCount
+pub shaped-by : (h : House) (ks cs : List ℕ) (n slot : ℕ) (s : Slot) → Shaped h → length ks ≡ rowCount
     → length cs ≡ rowCount → length (s .session .parts) ≡ mostOpen → slot < slotCount
     → Shaped (record { keys = ks; counts = cs; used = n; slots = set (h .slots) slot s })
 shaped-by h ks cs n slot s shape long paired cells there =

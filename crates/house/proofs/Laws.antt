@@ -19,7 +19,7 @@ use Rattle.session.specs.Session.{nothingYet, mostResults}
 use Rattle.house.specs.declared.Slot.{Slot}
 use Rattle.house.specs.declared.House.{House}
 use Rattle.house.specs.declared.Soundness.{Soundness}
-use Rattle.house.specs.House.{rowCount, keysOf, countsOf, free, unfilled, promisedFrom, promised}
+use Rattle.house.specs.House.{rowCount, carryLength, keysOf, countsOf, free, unfilled, promisedFrom, promised}
 use Rattle.house.specs.House.{takenOf, rowsSound, slotSound, slotsSound, sound, unsound, soundness, LentKeys}
 use Rattle.house.specs.House.{Lent}
 
@@ -74,9 +74,14 @@ module _ (i : ℕ) (s : Slot) (keys counts : List ℕ) where
     unfolding slotSound
     shut-floor h = rw (shut, ne-eqb (s .floor) 0 h)
 
-    pub shut-nothing : s .floor ≡ 0 → slotSound i s keys counts ≡ nothingYet (s .session .standing)
-    unfolding slotSound
-    shut-nothing h = rw (shut, eq-eqb (s .floor) 0 h)
+    module _ (low : s .floor ≡ 0) where
+      pub shut-held : (s .held ≡ 0 → ⊥) → slotSound i s keys counts ≡ false
+      unfolding slotSound
+      shut-held h = rw (shut, eq-eqb (s .floor) 0 low, ne-eqb (s .held) 0 h)
+
+      pub shut-nothing : s .held ≡ 0 → slotSound i s keys counts ≡ nothingYet (s .session .standing)
+      unfolding slotSound
+      shut-nothing h = rw (shut, eq-eqb (s .floor) 0 low, eq-eqb (s .held) 0 h)
 
   module _ (open-there : s .taken ≡ true) where
     pub open-floor : rowCount < s .floor → slotSound i s keys counts ≡ false
@@ -84,15 +89,26 @@ module _ (i : ℕ) (s : Slot) (keys counts : List ℕ) where
     open-floor h = rw (open-there, lt-leb (s .floor) rowCount h)
 
     module _ (low : s .floor ≤ rowCount) where
-      pub open-session : session.sound (s .session) ≡ false → slotSound i s keys counts ≡ false
+      pub open-held : carryLength < s .held → slotSound i s keys counts ≡ false
       unfolding slotSound
-      open-session e = rw (open-there, le-leb (s .floor) rowCount low, e)
+      open-held h = rw (open-there, le-leb (s .floor) rowCount low, lt-leb (s .held) carryLength h)
 
-      pub open-sum : session.sound (s .session) ≡ true → s .session .standing .results ≤ mostResults
-          → slotSound i s keys counts ≡ eqb (sumBy i keys counts) (s .session .standing .results)
-      unfolding slotSound
-      open-sum e few =
-          rw (open-there, le-leb (s .floor) rowCount low, e, le-leb (s .session .standing .results) mostResults few)
+      module _ (few : s .held ≤ carryLength) where
+        pub open-session : session.sound (s .session) ≡ false → slotSound i s keys counts ≡ false
+        unfolding slotSound
+        open-session e = rw (open-there, le-leb (s .floor) rowCount low, le-leb (s .held) carryLength few, e)
+
+        pub open-sum : session.sound (s .session) ≡ true → s .session .standing .results ≤ mostResults
+            → slotSound i s keys counts ≡ eqb (sumBy i keys counts) (s .session .standing .results)
+        unfolding slotSound
+        open-sum e most =
+            rw (
+              open-there,
+              le-leb (s .floor) rowCount low,
+              le-leb (s .held) carryLength few,
+              e,
+              le-leb (s .session .standing .results) mostResults most,
+            )
 
 module _ (slots : List Slot) (keys counts : List ℕ) (i : ℕ) (none : Slot) where
   module _ (h : i < length slots) where

@@ -129,8 +129,8 @@ module _ (room : Room) (keys counts : List ℕ) (used key : ℕ) (l : LentRows r
         counted-new keys counts used key new,
         new-counts keys counts used at key inside (omega (arith, roomed new, l .lent .paired, l .lent .long)),
       )
-      (below-insert (most + 1) (take used counts) at 1 (below-weaker most (most + 1) (take used counts) (omega arith) low)
-      (omega arith))
+      (below-insert (most + 1) (take used counts) at 1
+      (below-weaker most (most + 1) (take used counts) (omega arith) low) (omega arith))
 
   next-rows : (most : ℕ) → allBelow most (take used counts) ≡ true → 1 ≤ most → most < pastCounts
       → LentRows room (next .keys) (next .counts) (next .used)

@@ -4,8 +4,11 @@ pub mod Calling
 pub mod Reporting
 pub mod Keeping
 pub mod Slots
+pub mod Feeding
 pub mod Refusing
 pub mod Counting
 pub mod Alone
 pub mod Rooms
 pub mod Lending
+pub mod Laying
+pub mod Bare

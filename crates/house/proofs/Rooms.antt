@@ -114,11 +114,13 @@ refused-other h (Report slot long) = tt
 refused-other h (Close slot) = tt
 refused-other h Figured = tt
 
-pub never-unsound : NeverUnsound
+-- .. by no house that is sound
+pub sound-other : (h : House) → sound h ≡ true → (c : Call) → answerOf (reply h c) ≡ NotSound → ⊥
 unfolding housed
-never-unsound calls c sent own is =
-    let h = reached fresh calls in
-    answer-by Other (other housed refl) h (reached-sound calls sent) c (refused-other h c) is
+sound-other h e c = answer-by Other (other housed refl) h e c (refused-other h c)
+
+pub never-unsound : NeverUnsound
+never-unsound calls c sent own = sound-other (reached fresh calls) (reached-sound calls sent) c
 
 -- ---- what an answer carries
 

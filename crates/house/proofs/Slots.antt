@@ -71,7 +71,7 @@ rowsAfter rows (Taken change) b = rows
 rowsAfter rows (Wanted change key) b = cond b (plus key rows) rows
 
 abbrev pub nextSlot : Slot → Verdict → Bool → Slot
-nextSlot s v b = record { taken = s .taken; floor = s .floor; session = sessionBy (s .session) v b }
+nextSlot s v b = record { taken = s .taken; floor = s .floor; session = sessionBy (s .session) v b; held = s .held }
 
 key-in : (slot key : ℕ) → key < 4_278_190_080 → rowKey slot key % slotSpan ≡ key
 key-in slot key low = omega (arith, low)

@@ -101,23 +101,26 @@ deliveredTo h slot rec = delivered (roomOf h slot) (coreOf h slot) rec
 abbrev pub settledTo : House → ℕ → Verdict → Outcome
 settledTo h slot v = settled (roomOf h slot) (coreOf h slot) v
 
--- the house with what a record made of a slot's session and of the rows
-abbrev pub withOutcome : House → ℕ → Outcome → Answered
-withOutcome h slot o =
+-- the house with what records made of a slot's session and of the rows; bytes that are held are no business of theirs
+abbrev pub laid : House → ℕ → Core → House
+laid h slot c =
     let s = slotAt h slot in
-    answered (o .answer)
-    (record {
-      keys = o .core .keys;
-      counts = o .core .counts;
-      used = o .core .used;
+    record {
+      keys = c .keys;
+      counts = c .counts;
+      used = c .used;
       slots =
           set (h .slots) slot
           (record {
             taken = s .taken;
             floor = s .floor;
-            session = record { standing = o .core .standing; parts = o .core .parts };
+            session = record { standing = c .standing; parts = c .parts };
+            held = s .held;
           });
-    })
+    }
+
+abbrev pub withOutcome : House → ℕ → Outcome → Answered
+withOutcome h slot o = answered (o .answer) (laid h slot (o .core))
 
 -- what is known of a house and of an open slot of it when a verdict on a record to it is settled
 pub record Settleable (h : House) (owed slot : ℕ) (s : Slot) (v : Verdict) : Type 0 where

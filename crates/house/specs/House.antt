@@ -15,6 +15,7 @@ use lib.ListN.{length, take, replicate}
 use Rattle.rising.specs.Rising.{rising}
 use Rattle.prelude.specs.All.{all}
 use Rattle.rows.specs.Rows.{slotCount, heldBy, sumBy, rowsRight}
+use Rattle.cutting.specs.Needed.{longest}
 use Rattle.session.specs.Session as session
 use Rattle.session.specs.Session.{begun, nothingYet, mostResults}
 use Rattle.house.specs.declared.Slot.{Slot}
@@ -25,17 +26,27 @@ use Rattle.house.specs.declared.Soundness.{Soundness}
 abbrev pub rowCount : ℕ
 rowCount = 1024
 
+-- #102: a carry has 65,539 bytes, as the longest record
+abbrev pub carryLength : ℕ
+carryLength = longest
+
 -- a closed slot holds nothing
 abbrev pub closedSlot : Slot
-closedSlot = record { taken = false; floor = 0; session = begun }
+closedSlot = record { taken = false; floor = 0; session = begun; held = 0 }
 
--- a slot opened starts anew
+-- a slot opened starts anew, and no byte is held for it
 abbrev pub openedSlot : ℕ → Slot
-openedSlot floor = record { taken = true; floor = floor; session = begun }
+openedSlot floor = record { taken = true; floor = floor; session = begun; held = 0 }
 
 -- what stands past the last slot
 abbrev pub noSlot : Slot
-noSlot = record { taken = false; floor = 0; session = record { standing = begun .standing; parts = [] } }
+noSlot =
+    record {
+      taken = false;
+      floor = 0;
+      session = record { standing = begun .standing; parts = [] };
+      held = 0;
+    }
 
 -- a fresh house has no open slot and 1,024 free rows
 abbrev pub fresh : House
@@ -77,11 +88,12 @@ takenOf slots = map (λ (s : Slot). s .taken) slots
 unfoldable pub rowsSound : List Bool → List ℕ → List ℕ → Bool
 rowsSound taken keys counts = rising keys && rowsRight taken keys counts
 
--- an open slot: its floor at most 1,024, its session sound, its accepted PRRs at most 4,294,967,295 and the sum of its
--- counts
+-- an open slot: its floor at most 1,024, no more bytes held than its carry has (#102: at any place of the stream), its
+-- session sound, its accepted PRRs at most 4,294,967,295 and the sum of its counts
 abbrev pub openConditions : ℕ → Slot → List ℕ → List ℕ → List Bool
 openConditions i s keys counts =
     leb (s .floor) rowCount
+    ∷ leb (s .held) carryLength
     ∷ session.sound (s .session)
     ∷ leb (s .session .standing .results) mostResults
     ∷ eqb (sumBy i keys counts) (s .session .standing .results)
@@ -89,7 +101,7 @@ openConditions i s keys counts =
 
 -- a closed slot holds nothing
 abbrev pub closedConditions : Slot → List Bool
-closedConditions s = eqb (s .floor) 0 ∷ nothingYet (s .session .standing) ∷ []
+closedConditions s = eqb (s .floor) 0 ∷ eqb (s .held) 0 ∷ nothingYet (s .session .standing) ∷ []
 
 unfoldable pub slotSound : ℕ → Slot → List ℕ → List ℕ → Bool
 slotSound i s keys counts = all (cond (s .taken) (openConditions i s keys counts) (closedConditions s))

@@ -2,6 +2,7 @@ pub mod House
 pub mod Deliver
 pub mod Calls
 pub mod Report
+pub mod Feeding
 pub mod History
 pub mod Tally
 pub mod Laws

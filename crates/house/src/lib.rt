@@ -7,11 +7,13 @@ use session::Standing;
 ghost use mathlib.Core.Path.{_≡_};
 ghost use Rattle.house.specs.House.{closedSlot, openedSlot, fresh};
 
-// A slot: closed, or a session with its floor.
+// A slot: closed, or a session with its floor. `held` is how many bytes of its stream wait in the carry that the session
+// lends (#102): they go with the carry, and no record is judged by them.
 pub struct Slot {
     pub taken: bool,
     pub floor: u32,
     pub session: Session,
+    pub held: usize,
 }
 
 // The rows in use stand first in both arrays, their keys rising: slot, head, site and bin in one number.
@@ -31,6 +33,13 @@ pub struct Soundness {
 // The answer of a call, and the house after it.
 pub struct Answered {
     pub answer: Answer,
+    pub house: House,
+}
+
+// The answer of a feed (#102), how many bytes of its chunk were taken, and the house after it.
+pub struct Fed {
+    pub answer: Answer,
+    pub taken: usize,
     pub house: House,
 }
 
@@ -90,6 +99,7 @@ impl Slot {
             taken: false,
             floor: 0,
             session,
+            held: 0,
         }
     }
 
@@ -101,6 +111,7 @@ impl Slot {
             taken: true,
             floor,
             session,
+            held: 0,
         }
     }
 }
@@ -109,6 +120,9 @@ impl House {
     pub const ROWS: usize = 1024;
 
     pub const SLOTS: usize = 16;
+
+    // How long a carry is: the longest record has its header and 65,535 bytes.
+    pub const CARRY: usize = 65539;
 
     // A house with no open slot and every row free.
     pub fn fresh() -> House

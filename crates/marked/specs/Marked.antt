@@ -86,6 +86,7 @@ busy floor results =
             standing = record { place = Body; order = LowFirst; opened = 0; pcr = false; results = results };
             parts = replicate mostOpen 0;
           };
+      held = 0;
     }
 
 -- floors 1,000 and 0, of which the first holds n rows and the second 24

@@ -28,20 +28,22 @@ unfoldable pub asked : List ℕ → Asked
 asked [] = Nothing
 asked (b ∷ bs) = cond (eqb b (code "#")) Comment (askedBy (words (b ∷ bs)))
 
--- of the calls of a house, a delivery hands a record over
-abbrev pub takesRecord : Call → Bool
-takesRecord (call.Open slot floor) = false
-takesRecord (call.Deliver slot) = true
-takesRecord (call.Report slot long) = false
-takesRecord (call.Close slot) = false
-takesRecord call.Figures = false
+-- of the calls of a house, a delivery hands a record over and a feed a chunk
+abbrev pub takesBytes : Call → Bool
+takesBytes (call.Open slot floor) = false
+takesBytes (call.Deliver slot) = true
+takesBytes (call.Report slot long) = false
+takesBytes (call.Close slot) = false
+takesBytes call.Figures = false
+takesBytes (call.Feed slot long) = true
+takesBytes (call.End slot) = false
 
 abbrev pub handsOver : Asked → Bool
 handsOver Nothing = false
 handsOver Comment = false
 handsOver Help = false
 handsOver Fresh = false
-handsOver (Play c) = takesRecord c
+handsOver (Play c) = takesBytes c
 handsOver (Line way order at long) = true
 handsOver NoCall = false
 

@@ -5,6 +5,7 @@ use asking::Asked;
 use asking::ask_alone;
 use asking::ask_four;
 use asking::ask_one;
+use asking::ask_three;
 use asking::ask_two;
 use numerals::unhex;
 use script::Verb;
@@ -17,7 +18,7 @@ ghost use lib.ListN.{length, drop};
 ghost use Rattle.output.specs.Placed.{Put};
 ghost use Rattle.script.specs.Words.{words};
 ghost use Rattle.numerals.specs.Hex.{bytesOf};
-ghost use Rattle.requests.specs.Asked.{askedBy, asked, takesRecord, handsOver, handed, Finds, FindsIn};
+ghost use Rattle.requests.specs.Asked.{askedBy, asked, takesBytes, handsOver, handed, Finds, FindsIn};
 
 // What a line asks for, and where its last word starts, if it hands bytes over.
 struct Found {
@@ -50,16 +51,17 @@ fn cut_fourth(line: &[u8], verb: Verb, order: &[u8], at: &[u8], long: &[u8], fro
 }
 
 // The third word starts at `from`.
-fn cut_third(line: &[u8], verb: Verb, order: &[u8], at: &[u8], from: usize) -> Found
+fn cut_third(line: &[u8], verb: Verb, first: &[u8], second: &[u8], from: usize) -> Found
     requires { ⌜ from ≤ length (now line) ⌝ }
-    ensures { λ r. ⌜ Finds (now (line .entry)) verb (now (order .entry) ∷ now (at .entry)
+    ensures { λ r. ⌜ Finds (now (line .entry)) verb (now (first .entry) ∷ now (second .entry)
         ∷ words (drop from (now (line .entry)))) (r .asked) (r .from) ⌝ }
 {
     let e = word_end(line, from);
     if e < line.len() {
-        return cut_fourth(line, verb, order, at, &line[from..e], e + 1);
+        return cut_fourth(line, verb, first, second, &line[from..e], e + 1);
     }
-    no_call()
+    let asked = ask_three(verb, first, second, &line[from..]);
+    Found { asked, from }
 }
 
 // The second word starts at `from`.
@@ -102,8 +104,8 @@ fn cut_line(line: &[u8]) -> Found
     Found { asked, from: 0 }
 }
 
-fn takes_record(call: Call) -> bool
-    ensures { λ r. ⌜ r ≡ takesRecord call ⌝ }
+fn takes_bytes(call: Call) -> bool
+    ensures { λ r. ⌜ r ≡ takesBytes call ⌝ }
 {
     match call {
         Call::Open(_, _) => false,
@@ -111,6 +113,8 @@ fn takes_record(call: Call) -> bool
         Call::Report(_, _) => false,
         Call::Close(_) => false,
         Call::Figures => false,
+        Call::Feed(_, _) => true,
+        Call::End(_) => false,
     }
 }
 
@@ -122,7 +126,7 @@ fn hands_over(asked: Asked) -> bool
         Asked::Comment => false,
         Asked::Help => false,
         Asked::Fresh => false,
-        Asked::Play(call) => takes_record(call),
+        Asked::Play(call) => takes_bytes(call),
         Asked::Line(_, _, _, _) => true,
         Asked::NoCall => false,
     }

@@ -12,7 +12,7 @@ use lib.Dec.{eqb}
 use lib.ListN.{drop}
 use Rattle.script.specs.declared.Verb.{Verb}
 use Rattle.script.specs.declared.Verb.the-variants.{Fresh, Open, Deliver, Report, Close, Figures, Write, Read}
-use Rattle.script.specs.declared.Verb.the-variants.{Help, Other}
+use Rattle.script.specs.declared.Verb.the-variants.{Help, Feed, End, Other}
 
 abbrev pub space : ℕ
 space = code " "
@@ -61,6 +61,8 @@ verbs =
     named Write (code "w" ∷ code "r" ∷ code "i" ∷ code "t" ∷ code "e" ∷ []) ∷
     named Read (code "r" ∷ code "e" ∷ code "a" ∷ code "d" ∷ []) ∷
     named Help (code "h" ∷ code "e" ∷ code "l" ∷ code "p" ∷ []) ∷
+    named Feed (code "f" ∷ code "e" ∷ code "e" ∷ code "d" ∷ []) ∷
+    named End (code "e" ∷ code "n" ∷ code "d" ∷ []) ∷
     []
 
 -- all words of verbs, one behind the other: the code has them so, since a text of its own for each costs much to prove

@@ -14,6 +14,8 @@ pub enum Verb {
     Report,
     Close,
     Figures,
+    Feed,
+    End,
     Write,
     Read,
     Help,

@@ -39,10 +39,10 @@ pub fn is_name(word: &[u8], name: &[u8]) -> bool
 
 // Whether a word is the part `from` to `end` of all verbs' words, one behind the other.
 fn is_verb(word: &[u8], from: usize, end: usize) -> bool
-    requires { ⌜ (from ≤ end) × (end ≤ 47) ⌝ }
+    requires { ⌜ (from ≤ end) × (end ≤ 54) ⌝ }
     ensures { λ r. ⌜ r ≡ same (now (word .entry)) (take (end - from) (drop from (joined verbs))) ⌝ }
 {
-    let words = *b"deliveropenreportclosefiguresfreshwritereadhelp";
+    let words = *b"deliveropenreportclosefiguresfreshwritereadhelpfeedend";
     is_name(word, &words[from..end])
 }
 
@@ -75,6 +75,12 @@ pub fn verb_of(word: &[u8]) -> Verb
     }
     if is_verb(word, 43, 47) {
         return Verb::Help;
+    }
+    if is_verb(word, 47, 51) {
+        return Verb::Feed;
+    }
+    if is_verb(word, 51, 54) {
+        return Verb::End;
     }
     Verb::Other
 }

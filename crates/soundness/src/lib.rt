@@ -22,7 +22,7 @@ fn ranged(n: u32) -> u32
     n
 }
 
-// An open slot's floor, session and counts; a closed slot holds nothing.
+// An open slot's floor, its held bytes, its session and counts; a closed slot holds nothing.
 fn slot_sound<'a>(
     i: usize,
     s: Slot,
@@ -39,9 +39,15 @@ fn slot_sound<'a>(
         if s.floor != 0 {
             return false;
         }
+        if s.held != 0 {
+            return false;
+        }
         return session::nothing_yet(st);
     }
     if House::ROWS < s.floor as usize {
+        return false;
+    }
+    if House::CARRY < s.held {
         return false;
     }
     if !session::is_sound(session) {

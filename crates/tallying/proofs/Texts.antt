@@ -24,7 +24,7 @@ use Rattle.following.specs.Following.{standing}
 use Rattle.tallying.specs.Text.{rowLines, stoppedLine, leftOver, closing, endedWith, ended}
 use Rattle.following.specs.Lent.{streamHouse, progressOf}
 use Rattle.tallying.specs.Lined.{Lined}
-use Rattle.following.proofs.Carry.{front-part}
+use Rattle.cutting.proofs.Moves.{front-part}
 
 -- ---- line after line
 

@@ -45,6 +45,7 @@ fn house_of(s: Stream) -> House
         taken: true,
         floor: 1024,
         session,
+        held: 0,
     };
     h
 }

@@ -305,6 +305,7 @@ module _ (room : Room) (most : ℕ) (keys counts parts : List ℕ) (s : Stage) (
             (ap (λ (b : Bool). leadsBy b room most (r .fate) (stageProgress ks cs ps r) (rest r bytes)) done)
             ∙ o .same
             ∙ ap (λ (b : Bool). leadsBy b room most (s .fate) p (rest s bytes)) looking;
+        lends = o .kept .lendable;
         within = o .kept .within;
         few = o .few done;
         fits = o .fits;

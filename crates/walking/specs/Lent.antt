@@ -39,11 +39,12 @@ pub record Walkable (room : Room) (most : ℕ) (keys counts parts : List ℕ) (s
   pub countable : s .accepted + (length bytes - s .at) ≤ pastCount
 
 -- the bytes from a stage on are walked to the end; those left are of a record that is not whole, or of one that stopped
--- the walk
+-- the walk. What was lent may be lent to a further walk.
 pub record Arrived (room : Room) (most : ℕ) (keys counts parts : List ℕ) (s : Stage) (ks cs ps : List ℕ) (r : Stage)
     (bytes : List ℕ) : Type 0 where
   pub is : endsBy (r .fate) most (stageProgress ks cs ps r) (rest r bytes)
       ≡ walked (delivering room most) (Waits (stageProgress keys counts parts s) []) (rest s bytes)
+  pub lends : Lendable room most (stageProgress ks cs ps r)
   pub within : r .at ≤ length bytes
   pub few : r .fate ≡ Going → length (rest r bytes) < most
   pub fits : r .accepted + (length bytes - r .at) ≤ s .accepted + (length bytes - s .at)

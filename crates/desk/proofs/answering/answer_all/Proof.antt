@@ -1,14 +1,17 @@
 -- `desk::answering::answer_all` ends: the measure is the number of turns that are left.
 -- Assumes nothing.
+use mathlib.Core.Path.{_≡_}
 use native.Mathlib.Omega.{arith}
+use lib.ListN.{length}
+use borrow.Author.Needs.{needs}
 use Rattle.desk.proofs.answering.answer_all.Statement.{statement}
 use Rattle.desk.proofs.answering.answer_all.Tie as tie
 
 abbrev Inv-loop : tie.InvT-loop
-Inv-loop chunk₀ line₀ house₀ input₀ turns₀ chunk line house input turns = Unit {0}
+Inv-loop chunk₀ line₀ carries₀ house₀ input₀ turns₀ chunk line carries house input turns = length carries ≡ 1048640
 
 abbrev μ-loop : tie.MeasureT-loop
-μ-loop chunk₀ line₀ house₀ input₀ turns₀ chunk line house input turns = turns
+μ-loop chunk₀ line₀ carries₀ house₀ input₀ turns₀ chunk line carries house input turns = turns
 
 large-buffer-requires : tie.Need-large-buffer-requires Inv-loop μ-loop
 large-buffer-requires c κs = tt
@@ -22,6 +25,12 @@ line-buffer-requires c κs = tt
 slice-aggregate-line : tie.Need-slice-aggregate-line Inv-loop μ-loop
 slice-aggregate-line c = omega arith
 
+all-carries-requires : tie.Need-all-carries-requires Inv-loop μ-loop
+all-carries-requires c κs = tt
+
+slice-aggregate-carries : tie.Need-slice-aggregate-carries Inv-loop μ-loop
+slice-aggregate-carries c = omega arith
+
 fresh-requires : tie.Need-fresh-requires Inv-loop μ-loop
 fresh-requires c κs = tt
 
@@ -29,7 +38,7 @@ begin-requires : tie.Need-begin-requires Inv-loop μ-loop
 begin-requires c κs = tt
 
 loop-holds : tie.Need-loop-holds Inv-loop μ-loop
-loop-holds c = tt
+loop-holds c = search needs
 
 next-line-requires : tie.Need-next-line-requires Inv-loop μ-loop
 next-line-requires c κs = tt
@@ -50,7 +59,7 @@ part-answer-line-end : tie.Need-part-answer-line-end Inv-loop μ-loop
 part-answer-line-end c = omega arith
 
 answer-line-requires : tie.Need-answer-line-requires Inv-loop μ-loop
-answer-line-requires c κs = tt
+answer-line-requires c κs = search needs
 
 sub-turns : tie.Need-sub-turns Inv-loop μ-loop
 sub-turns c = omega arith
@@ -59,7 +68,7 @@ loop-less : tie.Need-loop-less Inv-loop μ-loop
 loop-less c = omega arith
 
 loop-again : tie.Need-loop-again Inv-loop μ-loop
-loop-again c = tt
+loop-again c = search needs
 
 returns-2 : tie.Need-returns-2 Inv-loop μ-loop
 returns-2 c = tt
@@ -74,6 +83,8 @@ answer-all-spec =
     slice-aggregate-chunk
     line-buffer-requires
     slice-aggregate-line
+    all-carries-requires
+    slice-aggregate-carries
     fresh-requires
     begin-requires
     loop-holds

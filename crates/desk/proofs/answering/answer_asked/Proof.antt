@@ -1,6 +1,7 @@
 -- `desk::answering::answer_asked` is safe and ends.
 -- Assumes nothing.
 use mathlib.Core.Path.{refl}
+use borrow.Author.Needs.{needs}
 use Rattle.desk.proofs.answering.answer_asked.Statement.{statement}
 use Rattle.desk.proofs.answering.answer_asked.Tie as tie
 
@@ -20,13 +21,16 @@ enum-known-asked : tie.Need-enum-known-asked
 enum-known-asked c = c .match .keys2
 
 house-call-requires : tie.Need-house-call-requires
-house-call-requires c κs = tt
+house-call-requires c κs = search needs
 
 answer-alone-requires : tie.Need-answer-alone-requires
 answer-alone-requires c κs = tt
 
 returns : tie.Need-returns
 returns c = tt
+
+same-length : tie.Need-same-length
+same-length c = search needs
 
 returns-2 : tie.Need-returns-2
 returns-2 c = tt
@@ -46,5 +50,6 @@ answer-asked-spec =
     house-call-requires
     answer-alone-requires
     returns
+    same-length
     returns-2
     returns-3)

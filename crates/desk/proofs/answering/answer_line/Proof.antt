@@ -18,10 +18,13 @@ part-answer-asked-end : tie.Need-part-answer-asked-end
 part-answer-asked-end c = omega arith
 
 answer-asked-requires : tie.Need-answer-asked-requires
-answer-asked-requires c κs = tt
+answer-asked-requires c κs = search needs
 
 same-length : tie.Need-same-length
 same-length c = search needs
+
+same-length-2 : tie.Need-same-length-2
+same-length-2 c = search needs
 
 returns : tie.Need-returns
 returns c = tt
@@ -36,4 +39,5 @@ answer-line-spec =
     part-answer-asked-end
     answer-asked-requires
     same-length
+    same-length-2
     returns)

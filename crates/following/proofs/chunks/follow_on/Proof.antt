@@ -8,7 +8,8 @@ use denote.Ref.{now}
 use borrow.Author.Needs.{needs}
 use Rattle.numbers.specs.Laws.{Bytes}
 use Rattle.numbers.proofs.Laws.{part-bytes}
-use Rattle.following.proofs.Carry.{front-part, walk-begins, walk-ends, chunk-told}
+use Rattle.cutting.proofs.Moves.{front-part}
+use Rattle.following.proofs.Carry.{walk-begins, walk-ends, chunk-told}
 use Rattle.following.proofs.chunks.follow_on.Statement.{statement}
 use Rattle.following.proofs.chunks.follow_on.Tie as tie
 

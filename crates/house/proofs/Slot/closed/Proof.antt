@@ -8,7 +8,7 @@ use Rattle.house.proofs.Slot.closed.Statement.{statement}
 use Rattle.house.proofs.Slot.closed.Tie as tie
 
 returns : tie.Need-returns
-returns c = ap (λ (s : Session). record { taken = false; floor = 0; session = s }) (c .begin .ensures)
+returns c = ap (λ (s : Session). record { taken = false; floor = 0; session = s; held = 0 }) (c .begin .ensures)
 
 -- ---- found by search
 

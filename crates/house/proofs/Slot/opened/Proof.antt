@@ -9,7 +9,7 @@ use Rattle.house.proofs.Slot.opened.Tie as tie
 
 returns : tie.Need-returns
 returns c =
-    ap (λ (s : Session). record { taken = true; floor = c .before .args .floor; session = s }) (c .begin .ensures)
+    ap (λ (s : Session). record { taken = true; floor = c .before .args .floor; session = s; held = 0 }) (c .begin .ensures)
 
 -- ---- found by search
 

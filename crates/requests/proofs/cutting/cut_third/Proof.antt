@@ -1,14 +1,11 @@
--- `requests::cutting::cut_third` meets its contract: a third word is not the last.
+-- `requests::cutting::cut_third` meets its contract: a third word is the last, or the fourth follows.
 -- Assumes nothing.
+use mathlib.Core.Path.{refl}
 use mathlib.Core.List.{List, _∷_}
-use Prim.Native.Nat.{_-_}
 use native.Mathlib.Omega.{arith}
-use lib.ListN.{length, take, drop}
 use denote.Ref.{now}
 use Rattle.asking.specs.Asks.{Word}
-use Rattle.script.proofs.WordLaws.{cut-last}
-use Rattle.asking.proofs.Laws.{three-none}
-use Rattle.requests.proofs.CutLaws.{found-none, found-more}
+use Rattle.requests.proofs.CutLaws.{found-last, found-more}
 use borrow.Author.Needs.{needs}
 use Rattle.requests.proofs.cutting.cut_third.Statement.{statement}
 use Rattle.requests.proofs.cutting.cut_third.Tie as tie
@@ -19,17 +16,17 @@ returns c =
     let a = wd .before .before .before .before .args in
     let line = now (a .line) in
     found-more line (a .from) (wd .word-end .result) (omega arith) (wd .word-end .ensures .0) (a .verb)
-    (λ (ws : List Word). now (a .order) ∷ now (a .at) ∷ ws) _ _
+    (λ (ws : List Word). now (a .first) ∷ now (a .second) ∷ ws) _ _
     (c .before .before .if1 .taken) (c .cut-fourth .ensures)
 
 returns-2 : tie.Need-returns-2
 returns-2 c =
-    let wd = c .before .before in
+    let wd = c .before .before .before in
     let a = wd .before .before .before .before .args in
     let line = now (a .line) in
-    found-none line _ _ _ _ (c .no-call .ensures .0) (c .no-call .ensures .1)
-    (rw (cut-last line (a .from) (wd .word-end .result) (omega arith) (wd .word-end .ensures .0) (c .before .if1 .left))
-    (three-none (a .verb) (now (a .order)) (now (a .at)) (take (length line - a .from) (drop (a .from) line))))
+    found-last line (a .from) (wd .word-end .result) (omega arith) (wd .word-end .ensures .0) (a .verb)
+    (λ (ws : List Word). now (a .first) ∷ now (a .second) ∷ ws) (c .ask-three .result)
+    (c .before .before .if1 .left) refl (c .ask-three .ensures)
 
 -- ---- found by search
 
@@ -51,8 +48,17 @@ add-cut-fourth c = omega arith
 cut-fourth-requires : tie.Need-cut-fourth-requires
 cut-fourth-requires c κs = search needs
 
-no-call-requires : tie.Need-no-call-requires
-no-call-requires c κs = tt
+sub-ask-three : tie.Need-sub-ask-three
+sub-ask-three c = omega arith
+
+part-ask-three-start : tie.Need-part-ask-three-start
+part-ask-three-start c = omega arith
+
+part-ask-three-end : tie.Need-part-ask-three-end
+part-ask-three-end c = omega arith
+
+ask-three-requires : tie.Need-ask-three-requires
+ask-three-requires c κs = tt
 
 pub cut-third-spec : {M : Type 1} → statement M
 cut-third-spec =
@@ -65,5 +71,8 @@ cut-third-spec =
     add-cut-fourth
     cut-fourth-requires
     returns
-    no-call-requires
+    sub-ask-three
+    part-ask-three-start
+    part-ask-three-end
+    ask-three-requires
     returns-2)

@@ -19,8 +19,8 @@ enum-told-4 c = c .match .keys4
 enum-known-asked : tie.Need-enum-known-asked
 enum-known-asked c = c .match .keys5
 
-takes-record-requires : tie.Need-takes-record-requires
-takes-record-requires c κs = tt
+takes-bytes-requires : tie.Need-takes-bytes-requires
+takes-bytes-requires c κs = tt
 
 enum-told-5 : tie.Need-enum-told-5
 enum-told-5 c = c .match .keys6
@@ -41,7 +41,7 @@ returns-4 : tie.Need-returns-4
 returns-4 c = rw (c .enum-told4 .given .1)
 
 returns-5 : tie.Need-returns-5
-returns-5 c = rw (c .takes-record .ensures, c .before .before .asked .given .1)
+returns-5 c = rw (c .takes-bytes .ensures, c .before .before .asked .given .1)
 
 returns-6 : tie.Need-returns-6
 returns-6 c = search needs
@@ -58,7 +58,7 @@ hands-over-spec =
     enum-told-3
     enum-told-4
     enum-known-asked
-    takes-record-requires
+    takes-bytes-requires
     enum-told-5
     enum-told-6
     returns

@@ -65,6 +65,18 @@ text9 c = text8 (c .before .before)
 left9 : (c : tie.Else9) → verbOf (text9 c) ≡ verbIn (drop 9 verbs) (text9 c)
 left9 c = left8 (c .before .before) ∙ rw (sym (c .before .is-verb9 .ensures) ∙ c .if9 .left)
 
+abbrev text10 : tie.Else10 → List ℕ
+text10 c = text9 (c .before .before)
+
+left10 : (c : tie.Else10) → verbOf (text10 c) ≡ verbIn (drop 10 verbs) (text10 c)
+left10 c = left9 (c .before .before) ∙ rw (sym (c .before .is-verb10 .ensures) ∙ c .if10 .left)
+
+abbrev text11 : tie.Else11 → List ℕ
+text11 c = text10 (c .before .before)
+
+left11 : (c : tie.Else11) → verbOf (text11 c) ≡ verbIn (drop 11 verbs) (text11 c)
+left11 c = left10 (c .before .before) ∙ rw (sym (c .before .is-verb11 .ensures) ∙ c .if11 .left)
+
 returns : tie.Need-returns
 unfolding verbOf
 returns c = rw (sym (c .before .is-verb .ensures) ∙ c .if1 .taken)
@@ -94,7 +106,13 @@ returns-9 : tie.Need-returns-9
 returns-9 c = sym (left8 (c .before .before) ∙ rw (sym (c .before .is-verb9 .ensures) ∙ c .if9 .taken))
 
 returns-10 : tie.Need-returns-10
-returns-10 c = sym (left9 c)
+returns-10 c = sym (left9 (c .before .before) ∙ rw (sym (c .before .is-verb10 .ensures) ∙ c .if10 .taken))
+
+returns-11 : tie.Need-returns-11
+returns-11 c = sym (left10 (c .before .before) ∙ rw (sym (c .before .is-verb11 .ensures) ∙ c .if11 .taken))
+
+returns-12 : tie.Need-returns-12
+returns-12 c = sym (left11 c)
 
 -- ---- found by search
 
@@ -125,6 +143,12 @@ is-verb-requires-8 c κs = (omega arith, omega arith)
 is-verb-requires-9 : tie.Need-is-verb-requires-9
 is-verb-requires-9 c κs = (omega arith, omega arith)
 
+is-verb-requires-10 : tie.Need-is-verb-requires-10
+is-verb-requires-10 c κs = (omega arith, omega arith)
+
+is-verb-requires-11 : tie.Need-is-verb-requires-11
+is-verb-requires-11 c κs = (omega arith, omega arith)
+
 pub verb-of-spec : {M : Type 1} → statement M
 verb-of-spec =
     tie.close
@@ -147,4 +171,8 @@ verb-of-spec =
     returns-8
     is-verb-requires-9
     returns-9
-    returns-10)
+    is-verb-requires-10
+    returns-10
+    is-verb-requires-11
+    returns-11
+    returns-12)

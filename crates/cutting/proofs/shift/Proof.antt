@@ -1,13 +1,13 @@
--- `following::chunks::keep` meets its contract: byte after byte comes to the front, and none is read that was written.
+-- `cutting::shift` meets its contract: byte after byte comes to the front, and none is read that was written.
 -- Assumes nothing.
 use mathlib.Core.Path.{_≡_, refl, ap, sym, _∙_}
 use Prim.Native.Nat.{ℕ, _-_, _≤_}
 use native.Mathlib.Omega.{arith}
 use lib.ListN.{take, drop}
 use denote.Ref.{now}
-use Rattle.following.proofs.Carry.{Moved, moved-none, moved-on}
-use Rattle.following.proofs.chunks.keep.Statement.{statement}
-use Rattle.following.proofs.chunks.keep.Tie as tie
+use Rattle.cutting.proofs.Moves.{Moved, moved-none, moved-on}
+use Rattle.cutting.proofs.shift.Statement.{statement}
+use Rattle.cutting.proofs.shift.Tie as tie
 
 abbrev Inv-loop : tie.InvT-loop
 Inv-loop buf₀ at end n i₀ buf i = (i ≤ n) × Moved at buf₀ buf i
@@ -52,8 +52,8 @@ returns c =
           ∙ ap (λ (k : ℕ). take k (drop (c .before .before .args .at) (now (c .before .before .args .buf)))) all,
     )
 
-pub keep-spec : {M : Type 1} → statement M
-keep-spec =
+pub shift-spec : {M : Type 1} → statement M
+shift-spec =
     tie.close
     (tie.spec
     Inv-loop

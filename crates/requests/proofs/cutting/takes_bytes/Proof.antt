@@ -1,8 +1,8 @@
--- `requests::cutting::takes_record` meets its contract: each arm is one case of `takesRecord`.
+-- `requests::cutting::takes_bytes` meets its contract: each arm is one case of `takesBytes`.
 -- Assumes nothing.
 use borrow.Author.Needs.{needs}
-use Rattle.requests.proofs.cutting.takes_record.Statement.{statement}
-use Rattle.requests.proofs.cutting.takes_record.Tie as tie
+use Rattle.requests.proofs.cutting.takes_bytes.Statement.{statement}
+use Rattle.requests.proofs.cutting.takes_bytes.Tie as tie
 
 enum-told : tie.Need-enum-told
 enum-told c = c .match .keys1
@@ -19,6 +19,12 @@ enum-told-4 c = c .match .keys4
 enum-told-5 : tie.Need-enum-told-5
 enum-told-5 c = c .match .keys5
 
+enum-told-6 : tie.Need-enum-told-6
+enum-told-6 c = c .match .keys6
+
+enum-told-7 : tie.Need-enum-told-7
+enum-told-7 c = c .match .keys7
+
 returns : tie.Need-returns
 returns c = search needs
 
@@ -34,8 +40,14 @@ returns-4 c = search needs
 returns-5 : tie.Need-returns-5
 returns-5 c = search needs
 
-pub takes-record-spec : {M : Type 1} → statement M
-takes-record-spec =
+returns-6 : tie.Need-returns-6
+returns-6 c = search needs
+
+returns-7 : tie.Need-returns-7
+returns-7 c = search needs
+
+pub takes-bytes-spec : {M : Type 1} → statement M
+takes-bytes-spec =
     tie.close
     (tie.spec
     enum-told
@@ -43,8 +55,12 @@ takes-record-spec =
     enum-told-3
     enum-told-4
     enum-told-5
+    enum-told-6
+    enum-told-7
     returns
     returns-2
     returns-3
     returns-4
-    returns-5)
+    returns-5
+    returns-6
+    returns-7)

@@ -1,0 +1,10 @@
+pub mod Checks
+pub mod Keeping
+pub mod Joins
+pub mod Records
+pub mod Alone
+pub mod Whole
+pub mod Spelled
+pub mod Told
+pub mod Feeds
+pub mod Telling

@@ -1,0 +1,6 @@
+pub mod Night
+pub mod Laws
+pub mod Assured
+pub mod Spelled
+pub mod Told
+pub mod Telling
