@@ -20,7 +20,7 @@ use Rattle.house.specs.Feeding.{standingAt, heard, hearing}
 use Rattle.house.specs.Laws.{Laid}
 use Rattle.house.proofs.Laying.{laid-slot, laid-delivers}
 use Rattle.cutting.specs.Needed.{longest, needed, cut}
-use Rattle.cutting.specs.Walk.{Heard, Kept, Turned, Waits, walked}
+use Rattle.cutting.specs.Walk.{Kept, Turned, Waits, walked}
 use Rattle.cutting.specs.Laws.{HeardLike, WalkLike, Same, Likeness, always}
 use Rattle.cutting.proofs.Walks.{walked-ever}
 use Rattle.pouring.specs.Pouring.{heardOf, pouring}
