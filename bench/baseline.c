@@ -1,6 +1,6 @@
 // The tally program in C, as one would write it for speed: the same checks in the same order and the same output as
-// document 01, "Tally program", with a large read buffer, records judged where they lie, a table of open parts and a
-// small hash of rows. It is what the proved program is measured against.
+// document 01, "Tally program", with a large read buffer, records judged where they lie, tables of open parts and wafers
+// and a small hash of rows. It is what the proved program is measured against.
 #include <stdio.h>
 #include <stdlib.h>
 #include <string.h>

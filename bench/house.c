@@ -1,4 +1,4 @@
-// Deliver, feed and figures of a house in C: document 01, Calls, and document 02, #102, with the same test of
+// Deliver, feed and figures of a house in C: document 01, Calls, and document 02, #102 and #103, with the same test of
 // soundness. It is a file of its own, so that no compiler sees through the call and a house is truly passed by value.
 #include <string.h>
 
@@ -48,15 +48,23 @@ static bool rows_sound(const struct house *h, struct held *held) {
     return from == h->used;
 }
 
-static bool nothing_yet(const struct session *s) { return !s->opened && !s->pcr && !s->results; }
+static bool nothing_yet(const struct session *s) { return !s->opened && !s->wafers && !s->pcr && !s->results; }
+
+static bool wafers_sound(const struct session *s) {
+    if (s->wafers > MOST_WAFERS) return false;
+    for (size_t i = 1; i < s->wafers; i++)
+        if (s->wafer[i - 1] >> 8 >= s->wafer[i] >> 8) return false;
+    return !s->wafers || s->wafer[s->wafers - 1] >> 16 == 0;
+}
 
 static bool session_sound(const struct session *s) {
     if (s->opened > MOST_PARTS) return false;
     for (size_t i = 1; i < s->opened; i++)
         if (s->parts[i - 1] >= s->parts[i]) return false;
     if (s->opened && s->parts[s->opened - 1] >= 255 << 8) return false;
+    if (!wafers_sound(s)) return false;
     if (s->place < BODY) return nothing_yet(s);
-    return s->place == BODY || (!s->opened && s->pcr);
+    return s->place == BODY || (!s->opened && !s->wafers && s->pcr);
 }
 
 static bool slot_sound(const struct slot *s, uint64_t sum) {
@@ -128,6 +136,33 @@ static inline int count_part(struct house *h, struct held *held, uint16_t *guess
     return 0;
 }
 
+// Where the wafer of a head stands, or would.
+static size_t wafer_rank(const struct session *s, uint8_t head) {
+    return rank_of(s->wafer, s->wafers, (uint64_t)head << 8);
+}
+
+static int open_wafer(struct session *s, const uint8_t *body) {
+    size_t at = wafer_rank(s, body[0]);
+    if (at < s->wafers && s->wafer[at] >> 8 == body[0]) return 22;
+    if (s->wafers == MOST_WAFERS) return 23;
+    insert(s->wafer, s->wafers++, at, (uint64_t)body[0] << 8 | body[1]);
+    return 0;
+}
+
+static int close_wafer(struct session *s, const uint8_t *body) {
+    size_t at = wafer_rank(s, body[0]);
+    if (at == s->wafers || s->wafer[at] != ((uint64_t)body[0] << 8 | body[1])) return 22;
+    memmove(s->wafer + at, s->wafer + at + 1, (--s->wafers - at) * sizeof *s->wafer);
+    return 0;
+}
+
+// 12, 33, 20.
+static int end_lot(const struct session *s) {
+    if (s->opened) return 12;
+    if (s->wafers) return 33;
+    return s->pcr ? 0 : 20;
+}
+
 // One whole record after the first: 6, 8, 7, then what its kind asks.
 static inline __attribute__((always_inline)) int judge(struct house *h, struct held *held, uint16_t *guesses,
                                                        uint32_t slot, const uint8_t *rec, size_t length, bool high) {
@@ -141,8 +176,9 @@ static inline __attribute__((always_inline)) int judge(struct house *h, struct h
     int number = 0;
     if (kind == PIR) number = open_part(s, (uint64_t)body[0] << 8 | body[1]);
     else if (kind == PRR) number = count_part(h, held, guesses, slot, body, high);
-    else if (kind == MRR && s->opened) number = 12;
-    else if (kind == MRR && !s->pcr) number = 20;
+    else if (kind == WIR) number = open_wafer(s, body);
+    else if (kind == WRR) number = close_wafer(s, body);
+    else if (kind == MRR) number = end_lot(s);
     else if (kind == PCR) s->pcr = true;
     if (!number) s->place = place;
     return number;

@@ -11,7 +11,9 @@ struct session {
     bool high, pcr;
     uint32_t results;
     size_t opened;
+    size_t wafers;
     uint64_t parts[MOST_PARTS]; // rising
+    uint64_t wafer[MOST_WAFERS]; // head and site group from the highest bits down, heads rising
 };
 
 struct slot {

@@ -1,4 +1,4 @@
-// A lot as the baseline keeps it: a table of open parts, a small hash of rows, and one record judged after another. One
+// A lot as the baseline keeps it: tables of open parts and of open wafers, a small hash of rows, and one record judged after another. One
 // lot a program.
 #ifndef LOT_H
 #define LOT_H
@@ -16,10 +16,11 @@ struct row {
 struct lot {
     enum place place;
     bool pcr;
-    unsigned parts, rows;
+    unsigned parts, wafers, rows;
     uint32_t results;
     uint64_t record; // records accepted
     bool open[256 * 256]; // by head and site
+    uint16_t wafer[256]; // by head: one more than the site group; 0: no wafer is open
     struct row table[HASH_SIZE];
 };
 
@@ -57,6 +58,28 @@ static inline int count_part(const uint8_t *body, bool high) {
     return 0;
 }
 
+static inline int open_wafer(const uint8_t *body) {
+    if (lot.wafer[body[0]]) return 22;
+    if (lot.wafers == MOST_WAFERS) return 23;
+    lot.wafer[body[0]] = body[1] + 1;
+    lot.wafers++;
+    return 0;
+}
+
+static inline int close_wafer(const uint8_t *body) {
+    if (lot.wafer[body[0]] != body[1] + 1) return 22;
+    lot.wafer[body[0]] = 0;
+    lot.wafers--;
+    return 0;
+}
+
+// 12, 33, 20.
+static inline int end_lot(void) {
+    if (lot.parts) return 12;
+    if (lot.wafers) return 33;
+    return lot.pcr ? 0 : 20;
+}
+
 // One whole record after the first: 6, 8, 7, then what its kind asks.
 static inline int judge(const uint8_t *rec, size_t length, bool high) {
     const uint8_t *body = rec + HEADER;
@@ -68,8 +91,9 @@ static inline int judge(const uint8_t *rec, size_t length, bool high) {
     int number = 0;
     if (kind == PIR) number = open_part(body);
     else if (kind == PRR) number = count_part(body, high);
-    else if (kind == MRR && lot.parts) number = 12;
-    else if (kind == MRR && !lot.pcr) number = 20;
+    else if (kind == WIR) number = open_wafer(body);
+    else if (kind == WRR) number = close_wafer(body);
+    else if (kind == MRR) number = end_lot();
     else if (kind == PCR) lot.pcr = true;
     if (!number) lot.place = place;
     return number;

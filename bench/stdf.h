@@ -1,4 +1,4 @@
-// STDF V4 as document 01 condenses it, for the programs in C that the proved ones are measured against: kinds, the
+// STDF V4 as documents 01 and 02 condense it, for the programs in C that the proved ones are measured against: kinds, the
 // order of a stream, and whether a body fits. Written by hand as one would in C; nothing here is proved.
 #ifndef STDF_H
 #define STDF_H
@@ -7,11 +7,11 @@
 #include <stddef.h>
 #include <stdint.h>
 
-enum { MOST_PARTS = 32, MOST_ROWS = 1024, LONGEST = 65536, HEADER = 4, FIRST = 6 };
+enum { MOST_PARTS = 32, MOST_WAFERS = 8, MOST_ROWS = 1024, LONGEST = 65536, HEADER = 4, FIRST = 6 };
 static const uint32_t MOST_RESULTS = 4294967295u;
 
 // Kinds that a rule tells apart; BODY_KIND is every other known kind and every custom one.
-enum kind { FAR, ATR, MIR, RDR, SDR, MRR, PCR, BIN, PIR, PRR, BODY_KIND, UNKNOWN };
+enum kind { FAR, ATR, MIR, RDR, SDR, MRR, PCR, BIN, PIR, PRR, WIR, WRR, BODY_KIND, UNKNOWN };
 
 enum place { START, HEADED, LOT, SETUP, BODY, ENDED, PLACES, OUT = PLACES };
 
@@ -44,9 +44,10 @@ static inline enum kind kind_of(unsigned type, unsigned sub) {
     case PAIR(1, 40): case PAIR(1, 50): return BIN;
     case PAIR(1, 70): return RDR;
     case PAIR(1, 80): return SDR;
+    case PAIR(2, 10): return WIR;
+    case PAIR(2, 20): return WRR;
     case PAIR(1, 60): case PAIR(1, 62): case PAIR(1, 63):
-    case PAIR(2, 10): case PAIR(2, 20): case PAIR(2, 30):
-    case PAIR(10, 30): case PAIR(20, 10): case PAIR(20, 20):
+    case PAIR(2, 30): case PAIR(10, 30): case PAIR(20, 10): case PAIR(20, 20):
     case PAIR(50, 10): case PAIR(50, 30): return BODY_KIND;
     default: return custom_or_unknown(type, sub);
     }
@@ -54,12 +55,12 @@ static inline enum kind kind_of(unsigned type, unsigned sub) {
 
 // Where a record of a kind leads from a place; OUT: it is out of place. A row a place, a column a kind up to BODY_KIND.
 static const uint8_t next_place[PLACES][UNKNOWN] = {
-    [START] = {HEADED, OUT, OUT, OUT, OUT, OUT, OUT, OUT, OUT, OUT, OUT},
-    [HEADED] = {OUT, HEADED, LOT, OUT, OUT, OUT, OUT, OUT, OUT, OUT, OUT},
-    [LOT] = {OUT, OUT, OUT, SETUP, SETUP, ENDED, BODY, BODY, BODY, BODY, BODY},
-    [SETUP] = {OUT, OUT, OUT, OUT, SETUP, ENDED, BODY, BODY, BODY, BODY, BODY},
-    [BODY] = {OUT, OUT, OUT, OUT, OUT, ENDED, BODY, BODY, BODY, BODY, BODY},
-    [ENDED] = {OUT, OUT, OUT, OUT, OUT, OUT, OUT, OUT, OUT, OUT, OUT},
+    [START] = {HEADED, OUT, OUT, OUT, OUT, OUT, OUT, OUT, OUT, OUT, OUT, OUT, OUT},
+    [HEADED] = {OUT, HEADED, LOT, OUT, OUT, OUT, OUT, OUT, OUT, OUT, OUT, OUT, OUT},
+    [LOT] = {OUT, OUT, OUT, SETUP, SETUP, ENDED, BODY, BODY, BODY, BODY, BODY, BODY, BODY},
+    [SETUP] = {OUT, OUT, OUT, OUT, SETUP, ENDED, BODY, BODY, BODY, BODY, BODY, BODY, BODY},
+    [BODY] = {OUT, OUT, OUT, OUT, OUT, ENDED, BODY, BODY, BODY, BODY, BODY, BODY, BODY},
+    [ENDED] = {OUT, OUT, OUT, OUT, OUT, OUT, OUT, OUT, OUT, OUT, OUT, OUT, OUT},
 };
 
 // Up to `most` counted fields from `at` to the very end.
@@ -105,6 +106,15 @@ static inline bool prr_fits(const uint8_t *body, size_t length, bool high) {
     return strings_fit(body, length, 17, 3);
 }
 
+static inline bool wir_fits(const uint8_t *body, size_t length) {
+    return length >= 6 && strings_fit(body, length, 6, 1);
+}
+
+static inline bool wrr_fits(const uint8_t *body, size_t length) {
+    if (length < 26) return length >= 10 && length % 4 == 2;
+    return strings_fit(body, length, 26, 6);
+}
+
 // Whether a body fits its kind, its values included; bodies of other kinds aren't read.
 static inline bool fits(enum kind kind, const uint8_t *body, size_t length, bool high) {
     switch (kind) {
@@ -114,6 +124,8 @@ static inline bool fits(enum kind kind, const uint8_t *body, size_t length, bool
     case BIN: return bin_fits(body, length, high);
     case PIR: return pir_fits(body, length);
     case PRR: return prr_fits(body, length, high);
+    case WIR: return wir_fits(body, length);
+    case WRR: return wrr_fits(body, length);
     default: return true;
     }
 }

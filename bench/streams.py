@@ -10,16 +10,17 @@ ORDERS = ("little", "big")
 FAR = {"little": bytes([2, 0, 0, 10, 2, 4]), "big": bytes([0, 2, 0, 10, 1, 4])}
 
 ATR, MIR, MRR, PCR, HBR, SBR, RDR, SDR = (0, 20), (1, 10), (1, 20), (1, 30), (1, 40), (1, 50), (1, 70), (1, 80)
-PIR, PRR = (5, 10), (5, 20)
+WIR, WRR, PIR, PRR = (2, 10), (2, 20), (5, 10), (5, 20)
 # kinds whose bodies aren't read and whose place in the body isn't judged, custom ones last
-FREE = [(1, 60), (1, 62), (1, 63), (2, 10), (2, 20), (2, 30), (10, 30), (15, 10), (15, 15), (15, 20), (20, 10),
-        (20, 20), (50, 10), (50, 30), (201, 0), (255, 255), (0, 201), (50, 201), (1, 255), (15, 240)]
-READ = [MIR, MRR, PCR, HBR, SBR, PIR, PRR]
+FREE = [(1, 60), (1, 62), (1, 63), (2, 30), (10, 30), (15, 10), (15, 15), (15, 20), (20, 10), (20, 20), (50, 10),
+        (50, 30), (201, 0), (255, 255), (0, 201), (50, 201), (1, 255), (2, 201), (15, 240)]
+READ = [MIR, MRR, PCR, HBR, SBR, WIR, WRR, PIR, PRR]
 # pairs beside the borders of known, custom and unknown
 EDGES = FREE + READ + [ATR, RDR, SDR, (0, 10), (3, 201), (3, 10), (180, 10), (180, 201), (181, 0), (200, 0), (200, 255),
                        (0, 30), (1, 90), (5, 30), (10, 10), (15, 30), (50, 20), (4, 4)]
 EDGES += [(typ, sub) for typ in (0, 1, 2, 5, 10, 15, 20, 50) for sub in (200, 201)]
 HEADS, SITES = (0, 1, 1, 1, 2, 2, 254), (0, 1, 1, 2, 3, 255)
+WAFER_HEADS, GROUPS = (0, 1, 1, 2, 3, 254, 255), (0, 1, 1, 2, 255, 255)
 BINS = (0, 1, 1, 1, 2, 5, 6, 32767)
 BORDERS = (0, 1, 255, 256, 32767, 32768, 65534, 65535)
 
@@ -38,6 +39,10 @@ def text(rng):
     return bytes([length]) + rng.randbytes(length)
 
 
+def texts(rng, count):
+    return [text(rng) for _ in range(count)]
+
+
 def some(rng, fields):
     """A required start and any number of the optional fields after it."""
     return b"".join(fields[:rng.randint(1, len(fields))])
@@ -46,11 +51,11 @@ def some(rng, fields):
 # ---- bodies that fit
 
 def mir(rng, order):
-    return rng.randbytes(15) + b"".join(text(rng) for _ in range(rng.choice((5, 5, 6, 12, 29, 30))))
+    return rng.randbytes(15) + b"".join(texts(rng, rng.choice((5, 5, 6, 12, 29, 30))))
 
 
 def mrr(rng, order):
-    return some(rng, [rng.randbytes(4), b"P", text(rng), text(rng)])
+    return some(rng, [rng.randbytes(4), b"P", *texts(rng, 2)])
 
 
 def pcr(rng, order):
@@ -71,7 +76,16 @@ def prr(rng, order, part, hard):
     start = bytes(part) + bytes([flag]) + rng.randbytes(2) + u2(order, hard)
     soft = u2(order, rng.choice((0, 1, 32767, 65535)))
     numbers = [rng.randbytes(2), rng.randbytes(2), rng.randbytes(4)]
-    return some(rng, [start, soft, *numbers, text(rng), text(rng), text(rng)])
+    return some(rng, [start, soft, *numbers, *texts(rng, 3)])
+
+
+def wir(rng, wafer):
+    return some(rng, [bytes(wafer) + rng.choice((bytes(4), rng.randbytes(4))), text(rng)])
+
+
+def wrr(rng, wafer):
+    counts = [rng.choice((b"\xff" * 4, rng.randbytes(4))) for _ in range(4)]
+    return some(rng, [bytes(wafer) + rng.randbytes(8), *counts, *texts(rng, 6)])
 
 
 # ---- lots that are right
@@ -85,15 +99,26 @@ def lot_start(rng, order):
     return records
 
 
-def lot_end(rng, order, opened):
+def lot_end(rng, order, opened, wafers):
     """Closes what is open, with the PCR that an MRR asks for."""
     records = [record(order, PRR, prr(rng, order, part, rng.choice(BINS))) for part in opened]
+    records += [record(order, WRR, wrr(rng, wafer)) for wafer in wafers]
+    rng.shuffle(records)
     records.append(record(order, PCR, pcr(rng, order)))
     records.append(record(order, MRR, mrr(rng, order)))
     return records
 
 
-def body_step(rng, order, opened):
+def wafer_step(rng, order, wafers):
+    """A WIR or a WRR that is allowed there."""
+    head = rng.choice(WAFER_HEADS)
+    if len(wafers) < 8 and head not in [wafer[0] for wafer in wafers]:
+        wafers.append((head, rng.choice(GROUPS)))
+        return record(order, WIR, wir(rng, wafers[-1]))
+    return record(order, WRR, wrr(rng, wafers.pop(rng.randrange(len(wafers)))))
+
+
+def body_step(rng, order, opened, wafers):
     """One record of the body that is allowed there."""
     turn = rng.random()
     if turn < 0.3 and len(opened) < 32:
@@ -108,14 +133,16 @@ def body_step(rng, order, opened):
         return record(order, rng.choice((HBR, SBR)), bin_count(rng, order))
     if turn < 0.75:
         return record(order, PCR, pcr(rng, order))
+    if turn < 0.87:
+        return wafer_step(rng, order, wafers)
     return record(order, rng.choice(FREE), rng.randbytes(rng.choice((0, 1, 2, 8, 30))))
 
 
 def plain_lot(rng, order):
-    opened = []
+    opened, wafers = [], []
     records = lot_start(rng, order)
-    records += [body_step(rng, order, opened) for _ in range(rng.choice((0, 1, 2, 5, 10, 20, 40)))]
-    return records + lot_end(rng, order, opened)
+    records += [body_step(rng, order, opened, wafers) for _ in range(rng.choice((0, 1, 2, 5, 10, 20, 40)))]
+    return records + lot_end(rng, order, opened, wafers)
 
 
 def lot_of_parts(rng, order):
@@ -125,7 +152,16 @@ def lot_of_parts(rng, order):
     records = lot_start(rng, order) + [record(order, PIR, pir(part)) for part in opened]
     if rng.random() < 0.3:  # a part that is open already, where 32 are
         records.append(record(order, PIR, pir(rng.choice(opened))))
-    return records + lot_end(rng, order, opened)
+    return records + lot_end(rng, order, opened, [])
+
+
+def lot_of_wafers(rng, order):
+    """7 to 10 wafers open at once: the ninth is one too many; now and then an open head again, where 8 are."""
+    wafers = [(head, rng.choice(GROUPS)) for head in rng.sample(range(256), rng.choice((7, 8, 8, 9, 10)))]
+    records = lot_start(rng, order) + [record(order, WIR, wir(rng, wafer)) for wafer in wafers]
+    if rng.random() < 0.3:
+        records.append(record(order, WIR, wir(rng, rng.choice(wafers))))
+    return records + lot_end(rng, order, [], wafers)
 
 
 def lot_of_keys(rng, order):
@@ -138,7 +174,7 @@ def lot_of_keys(rng, order):
     for head, site, hard in keys:
         start = bytes((head, site, 0)) + rng.randbytes(2) + u2(order, hard)
         records += [record(order, PIR, pir((head, site))), record(order, PRR, start)]
-    return records + lot_end(rng, order, [])
+    return records + lot_end(rng, order, [], [])
 
 
 def lot_of_long_records(rng, order):
@@ -181,8 +217,9 @@ def insert_any(rng, order, records):
 
 def insert_right(rng, order, records):
     """A record whose body fits, wherever it is put."""
-    part = (rng.choice(HEADS), rng.choice(SITES))
+    part, wafer = (rng.choice(HEADS), rng.choice(SITES)), (rng.choice(WAFER_HEADS), rng.choice(GROUPS))
     made = rng.choice((
+        (WIR, wir(rng, wafer)), (WRR, wrr(rng, wafer)),
         (MIR, mir(rng, order)), (MRR, mrr(rng, order)), (PCR, pcr(rng, order)), (HBR, bin_count(rng, order)),
         (PIR, pir(part)), (PRR, prr(rng, order, part, rng.choice(BINS))), (RDR, b""), (SDR, b""), (ATR, b"")))
     records.insert(rng.randint(1, len(records)), record(order, *made))
@@ -240,7 +277,8 @@ def refit(rng, order, records):
 def any_body(rng, order, records):
     """A body of any bytes, or one right at its start, at lengths around those that its kind may have."""
     lengths = {MIR: (15, 19, 20, 21, 22, 40), MRR: (3, 4, 5, 6, 7, 8), PCR: range(27), PIR: range(4),
-               HBR: (7, 8, 9, 10, 11, 14), SBR: (7, 8, 9, 10, 11, 14), PRR: range(24)}
+               HBR: (7, 8, 9, 10, 11, 14), SBR: (7, 8, 9, 10, 11, 14), PRR: range(24), WIR: range(12),
+               WRR: range(40)}
 
     def change(pair, body):
         length = rng.choice(lengths.get(pair, (0, 2)))
@@ -255,11 +293,13 @@ def small_bytes(rng, length):
 
 
 def long_strings(rng, order, records):
-    """A MIR with 4 to 32 strings: 5 to 30 fit."""
-    strings = b"".join(text(rng) for _ in range(rng.choice((4, 5, 30, 31, 32))))
+    """A MIR with 4 to 32 strings: 5 to 30 fit. Wafers' records with up to 2 and 7: 1 and 6 fit."""
+    starts = {MIR: (15, (4, 5, 30, 31, 32)), WIR: (6, (0, 1, 2)), WRR: (26, (0, 1, 5, 6, 7))}
     for at, rec in enumerate(records):
-        if tuple(rec[2:4]) == MIR:
-            records[at] = record(order, MIR, rng.randbytes(15) + strings)
+        size, counts = starts.get(tuple(rec[2:4]), (0, ()))
+        if counts and rng.random() < 0.5:
+            start = (rec[4:4 + size] + bytes(size))[:size]
+            records[at] = record(order, rec[2:4], start + b"".join(texts(rng, rng.choice(counts))))
 
 
 def bad_value(rng, order, records):
@@ -279,6 +319,32 @@ def bad_value(rng, order, records):
     with_body(rng, order, records, change)
 
 
+def other_wafer(rng, order, records):
+    """A WIR or a WRR of another head, or another group."""
+    found = [at for at, rec in enumerate(records) if tuple(rec[2:4]) in (WIR, WRR) and len(rec) > 5]
+    if found:
+        at = rng.choice(found)
+        place, value = rng.choice(((4, rng.choice(WAFER_HEADS)), (5, rng.choice(GROUPS))))
+        records[at] = records[at][:place] + bytes([value]) + records[at][place + 1:]
+
+
+def lose_wafer(rng, order, records):
+    """Without one WIR or WRR, or without all WRRs."""
+    found = [at for at, rec in enumerate(records) if tuple(rec[2:4]) in (WIR, WRR)]
+    if rng.random() < 0.5:
+        records[:] = [r for r in records if tuple(r[2:4]) != WRR]
+    elif found:
+        del records[rng.choice(found)]
+
+
+def wafer_again(rng, order, records):
+    """A WIR twice, or a WRR, with records between."""
+    found = [at for at, rec in enumerate(records) if tuple(rec[2:4]) in (WIR, WRR)]
+    if found:
+        at = rng.choice(found)
+        records.insert(rng.randint(at + 1, min(at + 4, len(records))), records[at])
+
+
 def without_pcr(rng, order, records):
     records[:] = [r for r in records if tuple(r[2:4]) != PCR]
 
@@ -294,7 +360,7 @@ def before_lot(rng, order, records):
 RECORD_DAMAGES = [
     drop, repeat, exchange, repeat_far, go_on_after_end, insert_any, insert_right, other_kind, swap_length,
     swap_orders_from, wrong_length, over_size, refit, refit, any_body, any_body, long_strings, bad_value, bad_value,
-    bad_value, without_pcr, end_early, before_lot]
+    bad_value, other_wafer, lose_wafer, wafer_again, without_pcr, end_early, before_lot]
 
 
 # ---- bytes damaged
@@ -352,6 +418,8 @@ def any_lot(rng, order):
         return lot_of_long_records(rng, order)
     if turn < 0.035:
         return lot_of_parts(rng, order)
+    if turn < 0.06:
+        return lot_of_wafers(rng, order)
     return plain_lot(rng, order)
 
 

@@ -5,10 +5,12 @@
 
 It shares no code with the crates. Where it and the desk differ, one of them misreads a document.
 """
+import datetime
 import re
 import sys
 
 SLOTS, ROWS, MOST_PARTS, MOST_RESULTS, MOST_BIN = 16, 1024, 32, 4294967295, 32767
+MOST_WAFERS = 8
 LONGEST_LINE, MOST_LENT = 140000, 4096
 CARRY, FIRST, HEADER = 65539, 6, 4
 COUNTED = "n"  # a C*n or B*n field: its first byte tells its length
@@ -22,6 +24,8 @@ BODIES = {
     "SBR": ([1, 1, 2, 4], [1, COUNTED]),
     "PIR": ([1, 1], []),
     "PRR": ([1, 1, 1, 2, 2], [2, 2, 2, 4, COUNTED, COUNTED, COUNTED]),
+    "WIR": ([1, 1, 4], [COUNTED]),
+    "WRR": ([1, 1, 4, 4], [4] * 4 + [COUNTED] * 6),
 }
 
 PAIRS = {
@@ -43,36 +47,37 @@ def kind_of(typ, sub):
     return "custom" if typ > 200 or (typ in PAIRS and sub > 200) else None
 
 
-def field_count(body, required, optional):
-    """How many fields a body has, or None where it is no such body."""
-    at = 0
+def fields_of(body, required, optional):
+    """The bytes of each field that a body has, or None where it is no such body."""
+    at, fields = 0, []
     for n, size in enumerate(required + optional):
         if n >= len(required) and at == len(body):
-            return n
+            return fields
         if size == COUNTED:
             if at >= len(body):
                 return None
             size = 1 + body[at]
+        fields.append(body[at : at + size])
         at += size
         if at > len(body):
             return None
-    return len(required + optional) if at == len(body) else None
+    return fields if at == len(body) else None
 
 
 def body_fits(kind, body, order):
     """The table of bodies, and the value rules."""
     if kind not in BODIES:
         return True
-    fields = field_count(body, *BODIES[kind])
+    fields = fields_of(body, *BODIES[kind])
     if fields is None:
         return False
     number = lambda a, b: int.from_bytes(body[a:b], order)
     if kind in ("HBR", "SBR"):
-        return number(2, 4) <= MOST_BIN and (fields < 5 or body[8:9] in (b"P", b"F", b" "))
+        return number(2, 4) <= MOST_BIN and (len(fields) < 5 or body[8:9] in (b"P", b"F", b" "))
     if kind == "PIR":
         return body[0] != 255
     if kind == "PRR":
-        soft = fields < 6 or number(7, 9) <= MOST_BIN or number(7, 9) == 65535
+        soft = len(fields) < 6 or number(7, 9) <= MOST_BIN or number(7, 9) == 65535
         return body[0] != 255 and body[2] & 3 != 3 and number(5, 7) <= MOST_BIN and soft
     return True
 
@@ -94,6 +99,7 @@ class Session:
     def __init__(self, floor):
         self.floor, self.place, self.order = floor, "start", "little"
         self.parts, self.pcr, self.results, self.rows = set(), False, 0, {}
+        self.wafers = {}  # of each head whose wafer is open, its site group
         self.held = 0  # how many bytes the slot's carry holds: 0 in a slot just opened
 
     def size(self, data, at):
@@ -138,8 +144,14 @@ class Session:
             answer = self.opens((body[0], body[1]))
         elif kind == "PRR":
             answer = self.closes((body[0], body[1]), int.from_bytes(body[5:7], self.order), spare)
+        elif kind == "WIR":
+            answer = self.opens_wafer(body[0], body[1])
+        elif kind == "WRR":
+            answer = self.closes_wafer(body[0], body[1])
         elif kind == "MRR" and self.parts:
             answer = "12 %d %d" % min(self.parts)
+        elif kind == "MRR" and self.wafers:
+            answer = 33
         elif kind == "MRR" and not self.pcr:
             answer = 20
         if answer == 0:
@@ -165,6 +177,20 @@ class Session:
         self.rows[key] = self.rows.get(key, 0) + 1
         self.results += 1
         self.parts.discard(part)
+        return 0
+
+    def opens_wafer(self, head, group):
+        if head in self.wafers:
+            return 22
+        if len(self.wafers) == MOST_WAFERS:
+            return 23
+        self.wafers[head] = group
+        return 0
+
+    def closes_wafer(self, head, group):
+        if self.wafers.get(head) != group:
+            return 22
+        del self.wafers[head]
         return 0
 
 
@@ -246,11 +272,25 @@ class House:
         return " ".join([f"0 {len(rows)}"] + ["%d/%d/%d=%d" % (key + (count,)) for key, count in rows])
 
 
-COUNT_SUBTYPES = {"PCR": 30, "HBR": 40, "SBR": 50}
-NOT_COUNTED = 4294967295  # the missing value of the last four counts of PCR
+LINE_PAIRS = {"PCR": (1, 30), "HBR": (1, 40), "SBR": (1, 50), "WIR": (2, 10), "WRR": (2, 20)}
+NOT_COUNTED = 4294967295  # the missing value of the last four counts of PCR and of WRR
 NAME = re.compile(rb"[\x20-\x7b\x7d\x7e]*")
-LINE = re.compile(rb"(PCR|HBR|SBR):([^\r\n]*)(\r\n|\r|\n)?")
+LINE = re.compile(rb"(PCR|HBR|SBR|WIR|WRR):([^\r\n]*)(\r\n|\r|\n)?")
 ORDERS = {1: "big", 2: "little"}
+
+# the fields of a wafer's record as its body has them, and which of them stands at each place of its line
+WAFER_FIELDS = {
+    "WIR": ["head", "group", "time", "name"],
+    "WRR": ["head", "group", "time", "parts"] + ["count"] * 4 + ["name"] * 6,
+}
+WAFER_LINES = {"WIR": [0, 2, 1, 3], "WRR": [0, 2, 3, 8, 1, 4, 5, 6, 7, 9, 10, 11, 12, 13]}
+# of each field that is a number: its size and its greatest value in text; and the missing value of those that have one
+WAFER_NUMBERS = {"head": (1, 255), "group": (1, 254), "parts": (4, 4294967295), "count": (4, NOT_COUNTED - 1)}
+WAFER_GAPS = {"group": b"\xff", "count": b"\xff" * 4, "name": b"\0"}
+
+EPOCH = datetime.datetime(1970, 1, 1)
+MONTHS = b"JAN FEB MAR APR MAY JUN JUL AUG SEP OCT NOV DEC".split()
+DATE = re.compile(rb"([0-9]{1,2}):([0-9]{2}):([0-9]{2}) ([0-9]{1,2})-([A-Z]{3})-([0-9]{4})")
 
 HELP = """\
 # fresh                        0
@@ -266,18 +306,62 @@ HELP = """\
 # help                         these lines"""
 
 
+def date_text(seconds):
+    """A time as #103 writes it."""
+    t = EPOCH + datetime.timedelta(seconds=seconds)
+    clock = b"%d:%02d:%02d" % (t.hour, t.minute, t.second)
+    return clock + b" %d-%s-%04d" % (t.day, MONTHS[t.month - 1], t.year)
+
+
+def date_bytes(text, order):
+    """The four bytes of a date; a ValueError where it is none, is time 0, or is past the last time of four bytes."""
+    found = DATE.fullmatch(text)
+    if not found:
+        raise ValueError
+    hour, minute, second, day, year = (int(found[n]) for n in (1, 2, 3, 4, 6))
+    t = datetime.datetime(year, MONTHS.index(found[5]) + 1, day, hour, minute, second)
+    seconds = (t - EPOCH) // datetime.timedelta(seconds=1)
+    if not 1 <= seconds <= 4294967295 or date_text(seconds) != text:
+        raise ValueError
+    return seconds.to_bytes(4, order)
+
+
+def wafer_texts(kind, body, order):
+    """The fields of a wafer's line, or the number that it is refused with: 21, 19."""
+    texts = [b""] * len(WAFER_FIELDS[kind])
+    if not any(body[2:6]):
+        return 21
+    for at, (form, data) in enumerate(zip(WAFER_FIELDS[kind], fields_of(body, *BODIES[kind]))):
+        if form == "name":
+            texts[at] = data[1:]
+            if not NAME.fullmatch(data[1:]):
+                return 19
+        elif data != WAFER_GAPS.get(form):
+            value = int.from_bytes(data, order)
+            texts[at] = date_text(value) if form == "time" else b"%d" % value
+    return [texts[at] for at in WAFER_LINES[kind]]
+
+
 def line_of(order, rec):
-    """The line of a record, or the number that it is refused with: 4, 3, 6, 7, 19."""
+    """The line of a record, or the number that it is refused with: 4, 3, 6, 7, 21, 19."""
     if order not in ORDERS:
         return 4
     if len(rec) < 4 or int.from_bytes(rec[:2], ORDERS[order]) != len(rec) - 4:
         return 3
     kind, body = kind_of(rec[2], rec[3]), rec[4:]
-    if kind not in COUNT_SUBTYPES:
+    if kind not in LINE_PAIRS:
         return 6
     if not body_fits(kind, body, ORDERS[order]):
         return 7
-    decimal = lambda a, b: b"%d" % int.from_bytes(body[a:b], ORDERS[order])
+    fields = wafer_texts(kind, body, ORDERS[order]) if kind in WAFER_LINES else count_texts(kind, body, ORDERS[order])
+    if isinstance(fields, int):
+        return fields
+    return kind.encode() + b":" + b"|".join(fields).rstrip(b"|") + b"\n"
+
+
+def count_texts(kind, body, order):
+    """The fields of a count line, or 19."""
+    decimal = lambda a, b: b"%d" % int.from_bytes(body[a:b], order)
     fields = [b"", b""] if body[0] == 255 else [b"%d" % body[0], b"%d" % body[1]]
     if kind == "PCR":
         counts = [decimal(at, at + 4) for at in range(2, len(body), 4)]
@@ -287,7 +371,7 @@ def line_of(order, rec):
         if not NAME.fullmatch(name):
             return 19
         fields += [decimal(2, 4), decimal(4, 8), body[8:9].replace(b" ", b""), name]
-    return kind.encode() + b":" + b"|".join(fields).rstrip(b"|") + b"\n"
+    return fields
 
 
 def in_range(text, most, size, order):
@@ -297,8 +381,34 @@ def in_range(text, most, size, order):
     return int(text).to_bytes(size, order)
 
 
-def body_of(kind, fields, order):
-    """The body that a line's fields make; a ValueError where they are none."""
+def wafer_field(form, text, order):
+    """The bytes of a field of a wafer's line; a ValueError where it is none."""
+    if form == "time":
+        return date_bytes(text, order)
+    if form != "name":
+        size, most = WAFER_NUMBERS[form]
+        return in_range(text, most, size, order)
+    if not NAME.fullmatch(text):
+        raise ValueError
+    return bytes([len(text[:255])]) + text[:255]
+
+
+def wafer_body(kind, fields, order):
+    """The body that the fields of a wafer's line make; a ValueError where they are none."""
+    forms, needed = WAFER_FIELDS[kind], len(BODIES[kind][0])
+    if len(fields) > len(forms):
+        raise ValueError
+    given = {at: text for at, text in zip(WAFER_LINES[kind], fields) if text}
+    parts = []
+    for at, form in enumerate(forms[: max(needed, max(given, default=0) + 1)]):
+        if at not in given and form not in WAFER_GAPS:
+            raise ValueError
+        parts.append(wafer_field(form, given[at], order) if at in given else WAFER_GAPS[form])
+    return b"".join(parts)
+
+
+def count_body(kind, fields, order):
+    """The body that a count line's fields make; a ValueError where they are none."""
     if kind == "PCR":
         columns = [(4, NOT_COUNTED)] + [(4, NOT_COUNTED - 1)] * 4
     else:
@@ -335,10 +445,11 @@ def record_of(order, line):
         return 18
     kind = found[1].decode()
     try:
-        body = body_of(kind, found[2].split(b"|"), ORDERS[order])
+        make = wafer_body if kind in WAFER_LINES else count_body
+        body = make(kind, found[2].split(b"|"), ORDERS[order])
     except ValueError:
         return 18
-    return len(body).to_bytes(2, ORDERS[order]) + bytes([1, COUNT_SUBTYPES[kind]]) + body
+    return len(body).to_bytes(2, ORDERS[order]) + bytes(LINE_PAIRS[kind]) + body
 
 
 def placed(made, at, length):

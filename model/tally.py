@@ -20,7 +20,7 @@ PAIRS = """
 50: 10 GDR, 30 DTR
 """
 
-# "Record frame and kinds": the bodies that are read; a body may stop at any field's end from the bar on
+# "Record frame and kinds", and #103: the bodies that are read; a body may stop at any field's end from the bar on
 BODIES = {
     "MIR": "U4 U4 U1 C1 C1 C1 U2 C1 Cn Cn Cn Cn Cn |" + " Cn" * 25,
     "MRR": "U4 | C1 Cn Cn",
@@ -29,6 +29,8 @@ BODIES = {
     "SBR": "head:U1 site:U1 bin:U2 U4 | pf:C1 Cn",
     "PIR": "head:U1 site:U1 |",
     "PRR": "head:U1 site:U1 flag:B1 U2 hard:U2 | soft:U2 I2 I2 U4 Cn Cn Bn",
+    "WIR": "head:U1 group:U1 U4 | Cn",
+    "WRR": "head:U1 group:U1 U4 U4 | U4 U4 U4 U4 Cn Cn Cn Cn Cn Cn",
 }
 
 # "Order of a stream": the stages through which a stream goes, none twice but those marked; every other kind is BODY
@@ -36,7 +38,7 @@ STAGES = {"FAR": 0, "ATR": 1, "MIR": 2, "RDR": 3, "SDR": 4, "MRR": 6}
 LOT, BODY, ENDED = 2, 5, 6
 REPEATED = {1, 4, BODY}
 
-MOST_ROWS, MOST_PARTS, MOST_RESULTS, LONGEST = 1024, 32, 4294967295, 65536
+MOST_ROWS, MOST_PARTS, MOST_WAFERS, MOST_RESULTS, LONGEST = 1024, 32, 8, 4294967295, 65536
 
 
 def pairs_of(text):
@@ -132,6 +134,7 @@ class Lot:
     def __init__(self, order):
         self.order, self.stage = order, STAGES["FAR"]
         self.parts, self.counts, self.results, self.pcr = set(), {}, 0, False
+        self.wafers = []  # head and site group of each open one
 
     def refusal(self, head, body):
         """The number for a whole record, 0 where it is accepted; "Order of checks", Later records, after 3."""
@@ -152,13 +155,17 @@ class Lot:
         return 0
 
     def take(self, kind, values):
-        """Refusals 9 to 14 and 20, and what an accepted record changes."""
+        """Refusals 9 to 14, 20, 22, 23 and 33, and what an accepted record changes."""
         if kind == "PIR":
             return self.open_part((values["head"], values["site"]))
         if kind == "PRR":
             return self.count_part((values["head"], values["site"]), values["hard"])
+        if kind == "WIR":
+            return self.open_wafer(values["head"], values["group"])
+        if kind == "WRR":
+            return self.close_wafer(values["head"], values["group"])
         if kind == "MRR":
-            return 12 if self.parts else 0 if self.pcr else 20
+            return 12 if self.parts else 33 if self.wafers else 0 if self.pcr else 20
         if kind == "PCR":
             self.pcr = True
         return 0
@@ -183,6 +190,20 @@ class Lot:
         self.counts[key] = self.counts.get(key, 0) + 1
         self.results += 1
         self.parts.remove(part)
+        return 0
+
+    def open_wafer(self, head, group):
+        if any(head == other for other, _ in self.wafers):
+            return 22
+        if len(self.wafers) == MOST_WAFERS:
+            return 23
+        self.wafers.append((head, group))
+        return 0
+
+    def close_wafer(self, head, group):
+        if (head, group) not in self.wafers:
+            return 22
+        self.wafers.remove((head, group))
         return 0
 
     def named(self, number):

@@ -10,6 +10,8 @@ NAME.tally.
     damaged   final, with one bit of a part's hardware bin turned over
     cut       wafer, its end lost on the way
     open      final, without the results of its last two parts
+    wafers    sort of three wafers, two of them at once on two heads, high byte first
+    lost      wafers, without the result of its last wafer
 
 What a lot's tally is comes from the maps below, from which the parts are made: no stream is read here. Fields are in
 the order of the STDF V4 specification; an optional end is left off where a tester leaves it off.
@@ -34,6 +36,15 @@ WAFER = """
 1 1 1 1 5 1
 . 1 3 1 1 .
 . . 1 1 . .
+"""
+
+# head and id of each wafer and the bin of each die, in the order in which two sites touch them; a line of its own where
+# the wafers before it have ended
+WAFERS = """
+1/W01: 1 1 5 1 1 2
+2/W02: 1 6 1 1 1 1
+
+1/W03: 1 1 1 3 1
 """
 
 # head, site and bin of each part, a line a load of the handler; the last two lines are failed parts tested again
@@ -167,6 +178,35 @@ def wafer_lot():
     return lot
 
 
+def sort_wafers(lot, wafers, began):
+    """WIRs, the parts of each head in turn, and WRRs in an order of their own; a head's site group has its number."""
+    for head, name, _ in wafers:
+        lot.add((2, 10), "BBIn", head, head, began, name)
+    for at in range(0, max(len(dies) for *_, dies in wafers), 2):
+        for head, name, dies in wafers:
+            touched = list(enumerate(dies[at:at + 2]))
+            for site, _ in touched:
+                lot.add((5, 10), "BB", head, site)
+            for site, hard in touched:
+                add_tests(lot, head, site, hard, at + site == 0)
+                add_result(lot, (head, site), hard, at + site, 0, "%s-%d" % (name, at + site + 1), 0)
+    for head, name, dies in reversed(wafers):
+        counts = (len(dies), 0, 0, dies.count(1), 4294967295)
+        lot.add((2, 20), "BBIIIIIIn", head, head, began + 9580, *counts, name)
+
+
+def wafers_lot():
+    lot = Lot(">")
+    add_start(lot, 1, "A3002C", 3, "P", ("6A",))
+    for head in (1, 2):
+        add_sites(lot, head, (0, 1), "prober")
+    for turn, group in enumerate(WAFERS.strip().split("\n\n")):
+        wafers = [(int(line[0]), line[2:5], [int(die) for die in line[6:].split()]) for line in group.split("\n")]
+        sort_wafers(lot, wafers, BEGAN + 10000 * turn)
+    add_end(lot, 0)
+    return lot
+
+
 def final_lot():
     lot = Lot(">")
     add_start(lot, 1, "A3002B", 2, "P", ("6A",))
@@ -214,6 +254,13 @@ def left_open():
     return lot.bytes(), "refused 12 at record %d, head %d site %d\n" % (len(lot.records), *part)
 
 
+def lost():
+    """The last wafer has no WRR, so that it is open at the MRR, and no part is."""
+    lot = wafers_lot()
+    del lot.records[max(i for i, rec in enumerate(lot.records) if rec[2:4] == bytes((2, 20)))]
+    return lot.bytes(), "refused 33 at record %d\n" % len(lot.records)
+
+
 def write(name, stream, said):
     with open(os.path.join(HERE, name + ".stdf"), "wb") as out:
         out.write(stream)
@@ -222,8 +269,9 @@ def write(name, stream, said):
 
 
 if __name__ == "__main__":
-    for name, lot in (("wafer", wafer_lot()), ("final", final_lot())):
+    for name, lot in (("wafer", wafer_lot()), ("final", final_lot()), ("wafers", wafers_lot())):
         write(name, lot.bytes(), lot.text())
     write("damaged", *damaged())
     write("cut", *cut())
     write("open", *left_open())
+    write("lost", *lost())

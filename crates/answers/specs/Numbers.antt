@@ -29,6 +29,10 @@ use Rattle.answers.specs.declared.Answer.the-variants.{
   NotACountLine,
   NameNotText,
   NoPcr,
+  NoTime,
+  WrongWafer,
+  TooManyWafers,
+  WaferOpen,
 }
 use Rattle.answers.specs.declared.Values.{Values}
 use Rattle.answers.specs.declared.Values.the-variants.{Nothing, Part}
@@ -57,6 +61,10 @@ sayingOf OutputTooShort = (17, Nothing)
 sayingOf NotACountLine = (18, Nothing)
 sayingOf NameNotText = (19, Nothing)
 sayingOf NoPcr = (20, Nothing)  -- #101: MRR while no part is open and no PCR was accepted
+sayingOf NoTime = (21, Nothing)  -- #103: a line whose required time is 0
+sayingOf WrongWafer = (22, Nothing)  -- #103: WIR while its head's wafer is open, WRR while no such wafer is
+sayingOf TooManyWafers = (23, Nothing)  -- #103: a ninth wafer
+sayingOf WaferOpen = (33, Nothing)  -- #103: MRR while no part is open and a wafer is
 
 abbrev pub numberOf : Answer → ℕ
 numberOf a = sayingOf a .0

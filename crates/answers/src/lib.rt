@@ -27,6 +27,10 @@ pub enum Answer {
     NotACountLine,
     NameNotText,
     NoPcr,
+    NoTime,
+    WrongWafer,
+    TooManyWafers,
+    WaferOpen,
 }
 
 // What an answer carries beside its number: nothing, or the head and the site of a part.
@@ -73,6 +77,10 @@ pub fn said(a: Answer) -> Saying
         Answer::NotACountLine => Saying(18, none),
         Answer::NameNotText => Saying(19, none),
         Answer::NoPcr => Saying(20, none),
+        Answer::NoTime => Saying(21, none),
+        Answer::WrongWafer => Saying(22, none),
+        Answer::TooManyWafers => Saying(23, none),
+        Answer::WaferOpen => Saying(33, none),
     }
 }
 

@@ -219,7 +219,7 @@ any-end n slot bytes ds =
     rw (digits-is slot ds, in-four (decimal slot))
     (ap (λ (a : Answer). Ended a ∷ []) (end-capped (n .house) (decimal slot)), refl)
 
--- ---- count lines
+-- ---- record lines
 
 order-capped : (n : ℕ) → orderOf (orderByte n) ≡ orderOf n
 order-capped n =

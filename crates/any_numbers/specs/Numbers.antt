@@ -5,7 +5,7 @@
 --   Digits       that a word is a number
 --   callsOf      the calls on a house that a line makes, with the bytes that it hands over
 --   PlaysAs      that a night replies to them as it does to a call, and is left as by it
---   outcomesOf   the outcomes of the calls on count lines that a line makes, over a lent output
+--   outcomesOf   the outcomes of the calls on record lines that a line makes, over a lent output
 -- Statements only: each is proved in proofs/Numbers.antt, under its name in small letters.
 -- Assumes nothing.
 use mathlib.Core.Path.{_≡_}
@@ -75,7 +75,7 @@ abbrev pub AnyEnd : Type 0
 AnyEnd = (n : Night) (slot : Word) (bytes : List ℕ) → Digits slot
     → PlaysAs n (asks verb.End (slot ∷ [])) bytes (End (decimal slot))
 
--- ---- count lines
+-- ---- record lines
 
 abbrev pub verbFor : Way → Verb
 verbFor Write = verb.Write

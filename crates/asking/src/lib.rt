@@ -1,5 +1,5 @@
-// What a verb of the desk asks for with the words behind it: a call on the house, a call on a count line, or no call. One
-// function for each number of words.
+// What a verb of the desk asks for with the words behind it: a call on the house, a call on a record line, or no call.
+// One function for each number of words.
 mod houses;
 mod lines;
 
@@ -18,14 +18,14 @@ ghost use mathlib.Core.List.{[], _∷_};
 ghost use mathlib.Core.Path.{_≡_};
 ghost use Rattle.asking.specs.Asks.{asks};
 
-// Which way a count line's call goes: a record to its line, or a line to its record.
+// Which way a record line's call goes: a record to its line, or a line to its record.
 pub enum Way {
     Write,
     Read,
 }
 
-// What a line asks for. The bytes that a delivery, a feed or a count line's call hands over are beside it, as a record's
-// are beside its call.
+// What a line asks for. The bytes that a delivery, a feed or a record line's call hands over are beside it, as a
+// record's are beside its call.
 pub enum Asked {
     Nothing,
     Comment,

@@ -1,4 +1,4 @@
-// The calls on count lines, with what their words say.
+// The calls on record lines, with what their words say.
 use crate::Asked;
 use crate::Way;
 use numerals::Number;

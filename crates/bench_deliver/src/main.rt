@@ -20,7 +20,7 @@ fn held() -> House {
     let standing = standing(Place::Body, 0, false, 1000);
     let session = Session {
         standing,
-        parts: [0u64; 32],
+        parts: [0u64; 40],
     };
     let mut h = House::fresh();
     h.slots[0] = Slot {

@@ -18,10 +18,10 @@ abbrev pub aloneRoom : Room
 aloneRoom = record { slot = 0; floor = 1024; others = 0 }
 
 abbrev pub inBody : Standing
-inBody = record { place = Body; order = LowFirst; opened = 0; pcr = false; results = 0 }
+inBody = record { place = Body; order = LowFirst; opened = 0; pcr = false; results = 0; wafers = 0 }
 
-pub begun-lending : Lending aloneRoom (core (replicate 1024 0) (replicate 1024 0) 0 inBody (replicate 32 0)) 1
-unfolding rising risingFrom allBelow heldBy session.sound session.partsRight
+pub begun-lending : Lending aloneRoom (core (replicate 1024 0) (replicate 1024 0) 0 inBody (replicate 40 0)) 1
+unfolding rising risingFrom allBelow heldBy session.sound session.keptRight
 begun-lending =
     record {
       rows =

@@ -120,7 +120,7 @@ fn run() -> Ran {
     let mut keys = [0u64; 1024];
     let mut counts = [0u64; 1024];
     let mut guesses = [0u16; 4096];
-    let mut parts = [0u64; 32];
+    let mut parts = [0u64; 40];
     let room = Room {
         slot: 0,
         floor: 1024,
@@ -132,6 +132,7 @@ fn run() -> Ran {
         opened: 0,
         pcr: false,
         results: 0,
+        wafers: 0,
     };
     let stream = pairs();
     follow(

@@ -9,14 +9,14 @@ use Rattle.numbers.specs.declared.Order.{Order}
 use Rattle.numbers.specs.Laws.{Bytes}
 use Rattle.kinds.specs.declared.Kind.{Kind}
 use Rattle.kinds.specs.declared.Kind.the-variants as kind
-use Rattle.fields.specs.Tables.{fitsBody, far, mir, mrr, pcr}
+use Rattle.fields.specs.Tables.{fitsBody, far, mir, mrr, pcr, wir, wrr}
 use Rattle.count_bodies.specs.Counts.{pcrOf, binCountOf, binBodyFits}
 use Rattle.part_bodies.specs.Parts.{pirOf, prrOf, pirBodyFits, prrBodyFits}
 use Rattle.part_bodies.proofs.Laws.{pir-said-right, prr-said-right}
 use Rattle.bodies.specs.declared.Record.{Record}
 use Rattle.bodies.specs.declared.Record.the-variants as said
 use Rattle.bodies.specs.declared.Reading.the-variants.{Fits}
-use Rattle.bodies.specs.Bodies.{farOf, reading, readBody}
+use Rattle.bodies.specs.Bodies.{farOf, waferOf, reading, readBody}
 use Rattle.bodies.specs.Laws.{saidBy, SaidBy, Right, SaidRight}
 
 -- a reading that fits passed its test and says what it was to say
@@ -37,6 +37,8 @@ said-by order kind.Rdr b r e = cc
 said-by order kind.Sdr b r e = cc
 said-by order kind.Pir b r e = sym (read-is (pirBodyFits order b) (said.Pir (pirOf b)) r e .1)
 said-by order kind.Prr b r e = sym (read-is (prrBodyFits order b) (said.Prr (prrOf order b)) r e .1)
+said-by order kind.Wir b r e = sym (read-is (fitsBody order wir b) (said.Wir (waferOf b)) r e .1)
+said-by order kind.Wrr b r e = sym (read-is (fitsBody order wrr b) (said.Wrr (waferOf b)) r e .1)
 said-by order (kind.Remaining k) b r e = cc
 said-by order kind.Custom b r e = cc
 said-by order kind.Unknown b r e = cc
@@ -56,6 +58,8 @@ by-kind order kind.Sdr b r h e = tt
 by-kind order kind.Pir b r h e = pir-said-right order b h (read-is (pirBodyFits order b) (said.Pir (pirOf b)) r e .0)
 by-kind order kind.Prr b r h e =
     prr-said-right order b h (read-is (prrBodyFits order b) (said.Prr (prrOf order b)) r e .0)
+by-kind order kind.Wir b r h e = (h 0, h 1)
+by-kind order kind.Wrr b r h e = (h 0, h 1)
 by-kind order (kind.Remaining k) b r h e = tt
 by-kind order kind.Custom b r h e = tt
 by-kind order kind.Unknown b r h e = tt

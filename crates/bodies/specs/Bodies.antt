@@ -1,6 +1,6 @@
--- What is read of a body of each kind. Document 01, "Record frame and kinds", bodies read.
+-- What is read of a body of each kind. Document 01, "Record frame and kinds", bodies read; #103, WIR and WRR.
 --
---   readFar .. readPrr   the reading of each body that is read
+--   readFar .. readWrr   the reading of each body that is read
 --   readBody             the reading of any body of any kind
 --   fitting, saidOf      whether a body fits, 7 where it does not, and what it says
 -- Assumes nothing.
@@ -10,10 +10,11 @@ use mathlib.Core.List.{List}
 use Rattle.numbers.specs.declared.Order.{Order}
 use Rattle.kinds.specs.declared.Kind.{Kind}
 use Rattle.kinds.specs.declared.Kind.the-variants as kind
-use Rattle.fields.specs.Tables.{fitsBody, far, mir, mrr, pcr}
+use Rattle.fields.specs.Tables.{fitsBody, far, mir, mrr, pcr, wir, wrr}
 use Rattle.count_bodies.specs.Counts.{pcrOf, binCountOf, binBodyFits}
 use Rattle.part_bodies.specs.Parts.{pirOf, prrOf, pirBodyFits, prrBodyFits}
 use Rattle.bodies.specs.declared.Far.{Far}
+use Rattle.bodies.specs.declared.Wafer.{Wafer}
 use Rattle.bodies.specs.declared.Record.{Record}
 use Rattle.bodies.specs.declared.Record.the-variants as body
 use Rattle.bodies.specs.declared.Reading.{Reading}
@@ -23,6 +24,10 @@ pub use Rattle.fields.specs.Tables.{byteOf}
 
 abbrev pub farOf : List ℕ → Far
 farOf b = record { cpu = byteOf far 0 b; version = byteOf far 1 b }
+
+-- #103: a WIR and a WRR begin alike
+abbrev pub waferOf : List ℕ → Wafer
+waferOf b = record { head = byteOf wir 0 b; group = byteOf wir 1 b }
 
 -- ---- the reading
 
@@ -50,6 +55,13 @@ readPir order b = reading (pirBodyFits order b) (body.Pir (pirOf b))
 abbrev pub readPrr : Order → List ℕ → Reading
 readPrr order b = reading (prrBodyFits order b) (body.Prr (prrOf order b))
 
+-- #103: no value of a WIR or WRR is judged
+abbrev pub readWir : Order → List ℕ → Reading
+readWir order b = reading (fitsBody order wir b) (body.Wir (waferOf b))
+
+abbrev pub readWrr : Order → List ℕ → Reading
+readWrr order b = reading (fitsBody order wrr b) (body.Wrr (waferOf b))
+
 -- bodies of other kinds aren't read
 unfoldable pub readBody : Order → Kind → List ℕ → Reading
 readBody order kind.Far b = readFar order b
@@ -60,6 +72,8 @@ readBody order kind.Hbr b = readBin false order b
 readBody order kind.Sbr b = readBin true order b
 readBody order kind.Pir b = readPir order b
 readBody order kind.Prr b = readPrr order b
+readBody order kind.Wir b = readWir order b
+readBody order kind.Wrr b = readWrr order b
 readBody order kind.Atr b = Fits body.Unread
 readBody order kind.Rdr b = Fits body.Unread
 readBody order kind.Sdr b = Fits body.Unread

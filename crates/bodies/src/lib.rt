@@ -1,25 +1,36 @@
-// What a body of any kind says: document 01, "Record frame and kinds", the bodies read. FAR, MIR and MRR are read here,
-// the others where their structs stand.
+// What a body of any kind says: document 01, "Record frame and kinds", the bodies read; #103, WIR and WRR. FAR,
+// MIR, MRR, WIR and WRR are read here, the others where their structs stand.
 use count_bodies::Bin;
 use count_bodies::Pcr;
 use fields::FAR;
 use fields::MIR;
 use fields::MRR;
+use fields::WIR;
+use fields::WRR;
 use fields::fits_table;
 use kinds::Kind;
 use numbers::Order;
 use part_bodies::Pir;
 use part_bodies::Prr;
 ghost use mathlib.Core.Path.{_≡_};
+ghost use Prim.Native.Nat.{_≤_};
+ghost use lib.ListN.{length};
 ghost use Rattle.bodies.specs.Bodies.{reading, readFar, readMir, readMrr, readPcr, readBin, readPir, readPrr};
-ghost use Rattle.bodies.specs.Bodies.{readBody};
+ghost use Rattle.bodies.specs.Bodies.{waferOf, readWir, readWrr, readBody};
 
 pub struct Far {
     pub cpu: u8,
     pub version: u8,
 }
 
-// What is read of a body. A kind that is none of the first seven cases has its body unread.
+// The head and the site group of a wafer's record: a stream tells its open wafers apart by these two. No other field of a
+// WIR or WRR is judged, beyond that it is whole; the lines read them again, field by field, where they are written.
+pub struct Wafer {
+    pub head: u8,
+    pub group: u8,
+}
+
+// What is read of a body. A kind that is none of the first nine cases has its body unread.
 pub enum Record {
     Far(Far),
     Mir,
@@ -28,6 +39,8 @@ pub enum Record {
     Bin(Bin),
     Pir(Pir),
     Prr(Prr),
+    Wir(Wafer),
+    Wrr(Wafer),
     Unread,
 }
 
@@ -114,6 +127,37 @@ fn read_prr(order: Order, body: &[u8]) -> Reading
     }
 }
 
+// The head and the site group, which stand first in a WIR and a WRR alike.
+fn wafer_of(body: &[u8]) -> Wafer
+    requires { ⌜ 2 ≤ length (now body) ⌝ }
+    ensures { λ r. ⌜ r ≡ waferOf (now (body .entry)) ⌝ }
+{
+    Wafer {
+        head: body[0],
+        group: body[1],
+    }
+}
+
+fn read_wir(order: Order, body: &[u8]) -> Reading
+    ensures { λ r. ⌜ r ≡ readWir order (now (body .entry)) ⌝ }
+{
+    if fits_table(order, body, &WIR, 3) {
+        Reading::Fits(Record::Wir(wafer_of(body)))
+    } else {
+        Reading::Misfit
+    }
+}
+
+fn read_wrr(order: Order, body: &[u8]) -> Reading
+    ensures { λ r. ⌜ r ≡ readWrr order (now (body .entry)) ⌝ }
+{
+    if fits_table(order, body, &WRR, 4) {
+        Reading::Fits(Record::Wrr(wafer_of(body)))
+    } else {
+        Reading::Misfit
+    }
+}
+
 // What a body of that kind says, or that it does not fit.
 pub fn read_body(order: Order, kind: Kind, body: &[u8]) -> Reading
     ensures { λ r. ⌜ r ≡ readBody order kind (now (body .entry)) ⌝ }
@@ -127,6 +171,8 @@ pub fn read_body(order: Order, kind: Kind, body: &[u8]) -> Reading
         Kind::Sbr => read_bin(true, order, body),
         Kind::Pir => read_pir(order, body),
         Kind::Prr => read_prr(order, body),
+        Kind::Wir => read_wir(order, body),
+        Kind::Wrr => read_wrr(order, body),
         Kind::Atr => Reading::Fits(Record::Unread),
         Kind::Rdr => Reading::Fits(Record::Unread),
         Kind::Sdr => Reading::Fits(Record::Unread),

@@ -48,7 +48,7 @@ pub record Agree (slot : ℕ) (b : Book) (h : House) : Type 0 where
   pub floor : b .floor ≡ slotAt h slot .floor
   pub says : Says b (slotAt h slot .session)
   pub rows : packed (b .results) ≡ rowsAt h slot
-  pub shut : b .opened ≡ false → (b .floor ≡ 0) × (b .results ≡ [])
+  pub shut : b .opened ≡ false → b ≡ nothing
 
 pub agree-alike : (slot : ℕ) (b : Book) (h g : House) → Alike slot g h → Agree slot b h → Agree slot b g
 agree-alike slot b h g a p =
@@ -70,7 +70,7 @@ agree-fresh slot =
           fresh-at (λ (s : Slot). Says nothing (s .session)) slotCount slot (says-anew false 0 (begun .parts))
           (says-anew false 0 []);
       rows = refl;
-      shut = λ is. (refl, refl);
+      shut = λ is. refl;
     }
 
 -- ---- one call more
@@ -78,7 +78,7 @@ agree-fresh slot =
 -- a slot that stands as one just opened or closed, and holds no row
 agree-anew : (slot : ℕ) (g : House) (taken : Bool) (floor : ℕ)
     → slotAt g slot ≡ record { taken = taken; floor = floor; session = begun; held = 0 } → rowsAt g slot ≡ []
-    → (taken ≡ false → floor ≡ 0) → Agree slot (book taken floor) g
+    → (taken ≡ false → book taken floor ≡ nothing) → Agree slot (book taken floor) g
 unfolding packed
 agree-anew slot g taken floor stands none shut =
     record {
@@ -88,7 +88,7 @@ agree-anew slot g taken floor stands none shut =
           subst (λ (s : Slot). Says (book taken floor) (s .session)) (sym stands)
           (says-anew taken floor (begun .parts));
       rows = sym none;
-      shut = λ is. (shut is, refl);
+      shut = shut;
     }
 
 module _ (slot : ℕ) (b : Book) (h : House) (p : Agree slot b h) where
@@ -151,7 +151,7 @@ module _ (slot : ℕ) (b : Book) (h : House) (p : Agree slot b h) where
         let shut = not-true (slotAt h slot .taken) (new .0) in
         let o = own-open h slot shape e (ltb-true slot slotCount (inside .0)) floor (low .0) shut (wide .0) in
         agree-anew slot (openSlot h slot floor .house) true floor (o .0)
-        (o .1 ∙ sym (p .rows) ∙ ap packed (p .shut (p .opened ∙ shut) .1))
+        (o .1 ∙ sym (p .rows) ∙ ap (λ (d : Book). packed (d .results)) (p .shut (p .opened ∙ shut)))
         (λ is. absurd (true≢false is))
 
     agree-close : numberOf (closeSlot h slot .answer) ≡ 0 → Agree slot nothing (closeSlot h slot .house)

@@ -2,12 +2,12 @@
 -- every record, and what it asks for.
 -- Assumes nothing.
 use mathlib.Core.Path.{_≡_, refl, ap, ap₂, sym, subst, subst₂, _∙_}
-use mathlib.Core.Bool.{Bool, true, false, cond, not, _&&_, _||_, false≢true}
-use mathlib.Core.List.{List, [], _∷_, _++_}
-use Prim.Native.Nat.{ℕ, _<_}
+use mathlib.Core.Bool.{Bool, true, false, cond, not, _||_, false≢true}
+use mathlib.Core.List.{List, [], _∷_, _++_, map}
+use Prim.Native.Nat.{ℕ, _+_, _-_, _<_}
 use native.Mathlib.Omega.{arith}
 use lib.Dec.{eqb}
-use lib.ListN.{length}
+use lib.ListN.{length, take}
 use Rattle.prelude.specs.Checks.{Check, numberBy}
 use Rattle.prelude.specs.Each.{each}
 use Rattle.numbers.specs.declared.Order.{Order}
@@ -21,6 +21,7 @@ use Rattle.count_bodies.specs.declared.Pcr.{Pcr}
 use Rattle.part_bodies.specs.declared.Pir.{Pir}
 use Rattle.part_bodies.specs.declared.Prr.{Prr}
 use Rattle.part_bodies.specs.Laws.{PrrRight}
+use Rattle.bodies.specs.declared.Wafer.{Wafer}
 use Rattle.bodies.specs.declared.Record.{Record}
 use Rattle.bodies.specs.declared.Record.the-variants as said
 use Rattle.bodies.specs.declared.Reading.{Reading}
@@ -33,34 +34,35 @@ use Rattle.order.specs.declared.Place.the-variants.{Start, Header, Lot, Setup, 
 use Rattle.order.specs.declared.Step.the-variants.{To}
 use Rattle.order.specs.Order.{goes, placeAfter}
 use Rattle.rising.specs.Rising.{rank, held}
-use Rattle.rising.proofs.Laws.{held-insert, held-remove}
 use Rattle.session.specs.declared.Session.{Session}
 use Rattle.session.specs.declared.Standing.{Standing}
 use Rattle.session.specs.declared.Verdict.{Verdict}
 use Rattle.session.specs.declared.Verdict.the-variants.{Refused, Taken, Wanted}
-use Rattle.session.specs.Session.{mostOpen, partOf, keyOf, partsOf, isStart, begun, sound}
+use Rattle.session.specs.Session.{mostOpen, mostWafers, cellCount, partOf, keyOf, partsOf, waferNumber, waferHead}
+use Rattle.session.specs.Session.{wafersOf, isStart, begun, sound}
 use Rattle.session.specs.Verdicts.{stands, verdictNumber}
-use Rattle.session.proofs.Keys.{part-same}
-use Rattle.session.proofs.Laws.{sound-parts-told}
+use Rattle.session.proofs.Laws.{sound-parts-told, sound-wafers-rise}
+use Rattle.session.proofs.Wafers.{wafer-on}
 use Rattle.settling.specs.Settling.{lentSession, changed}
 use Rattle.first_record.specs.First.{inOrder, judgeFirst, orderIn}
 use Rattle.first_record.specs.Laws.{firstChecks}
 use Rattle.first_record.proofs.Accepted.{first-accepted}
 use Rattle.first_record.proofs.Checks.{first-cases, first-number}
-use Rattle.kind_effects.specs.Effects.{withPcr, opens, closes, judgeSaid}
-use Rattle.kind_effects.specs.Laws.{ownChecks}
+use Rattle.kind_effects.specs.Effects.{withPcr, opens, closes, waferOpens, waferCloses, judgeSaid}
+use Rattle.kind_effects.specs.Laws.{Seen, seenOf, ownChecks}
 use Rattle.kind_effects.proofs.Cases.{quiet, said-cases}
 use Rattle.later_records.specs.Later.{at, judgeLater}
 use Rattle.later_records.specs.Laws.{laterChecks}
 use Rattle.later_records.proofs.Checks.{later-cases, later-number}
 use Rattle.judging.specs.Judge.{verdictOn}
-use Rattle.judging.proofs.Laws.{judged-first, judged-later, parts-opened, parts-closed}
+use Rattle.judging.proofs.Laws.{judged-first, judged-later, parts-opened, parts-closed, opened-beside, closed-beside}
+use Rattle.judging.proofs.Laws.{wafers-opened, wafers-closed}
 use Rattle.tallies.specs.Results.{PartResult}
 use Rattle.tallies.specs.Packed.{keyed, RightResult, AllRight}
-use Rattle.books.specs.Book.{Part, isOpen, Book, book, kindIn, saidIn, asResult, resultsIn}
-use Rattle.books.specs.Book.{partsAfter, isPcr, noted}
-use Rattle.books.specs.Told.{recordChecks}
-use Rattle.books.proofs.Parts.{open-without, Distinct, length-without, distinct-without, Low, low-without}
+use Rattle.books.specs.Book.{part, without, Book, book, kindIn, saidIn, asResult, resultsIn, Neither, onParts}
+use Rattle.books.specs.Book.{onWafers, openAfter, isPcr, noted}
+use Rattle.books.specs.Told.{seenIn, recordChecks}
+use Rattle.books.proofs.Listed.{Lists, lists-none, lists-opened, lists-closed, lists-head}
 
 -- ---- what a book says of a session
 
@@ -70,59 +72,74 @@ result-right x told = record { head = omega (arith, told .0); site = told .1; bi
 pub record Says (b : Book) (s : Session) : Type 0 where
   pub place : b .place ≡ s .standing .place
   pub order : b .order ≡ s .standing .order
-  pub opened : length (b .parts) ≡ s .standing .opened
-  pub parts : (head site : ℕ) → site < 256 → isOpen (b .parts) head site ≡ held (partOf head site) (partsOf s)
-  pub distinct : Distinct (b .parts)
-  pub low : Low (b .parts)
+  pub parts : Lists (b .parts) (s .standing .opened) (partsOf s)
   pub pcr : b .pcr ≡ s .standing .pcr
   pub results : length (b .results) ≡ s .standing .results
   pub right : AllRight (b .results)
+  pub wafers : Lists (b .wafers) (s .standing .wafers) (wafersOf s)
 
 -- a session that has followed nothing, whatever its cells hold
 pub says-anew : (taken : Bool) (floor : ℕ) (cells : List ℕ)
     → Says (book taken floor) (lentSession (begun .standing) cells)
-unfolding isOpen held
 says-anew taken floor cells =
     record {
       place = refl;
       order = refl;
-      opened = refl;
-      parts = λ head site low. refl;
-      distinct = tt;
-      low = tt;
+      parts = lists-none;
       pcr = refl;
       results = refl;
       right = tt;
+      wafers = lists-none;
     }
 
 -- ---- the number of a record
 
--- a record's own checks ask for its part alone
-module _ (f g : ℕ → ℕ → Bool) (alike : (head site : ℕ) → site < 256 → f head site ≡ g head site) (opened results : ℕ)
-    (pcr : Bool) where
-  own-alike : (r : Record) → Right r
-      → numberBy (ownChecks f opened results pcr r) ≡ numberBy (ownChecks g opened results pcr r)
-  own-alike (said.Pir p) right = rw (alike (p .head) (p .site) (right .1))
-  own-alike (said.Prr p) right = rw (alike (p .head) (p .site) (right .1))
-  own-alike said.Mrr right = refl
+-- a record's own checks ask for its part or its wafer alone, and a site, or a site group, is one byte
+record Alike (x y : Seen) : Type 0 where
+  isOpen : (head site : ℕ) → site < 256 → x .isOpen head site ≡ y .isOpen head site
+  opened : x .opened ≡ y .opened
+  results : x .results ≡ y .results
+  pcr : x .pcr ≡ y .pcr
+  onHead : (head : ℕ) → x .onHead head ≡ y .onHead head
+  isWafer : (head group : ℕ) → group < 256 → x .isWafer head group ≡ y .isWafer head group
+  wafers : x .wafers ≡ y .wafers
+
+module _ (x y : Seen) (alike : Alike x y) where
+  own-alike : (r : Record) → Right r → numberBy (ownChecks x r) ≡ numberBy (ownChecks y r)
+  own-alike (said.Pir p) right = rw (alike .isOpen (p .head) (p .site) (right .1), alike .opened)
+  own-alike (said.Prr p) right = rw (alike .isOpen (p .head) (p .site) (right .1), alike .results)
+  own-alike (said.Wir w) right = rw (alike .onHead (w .head), alike .wafers)
+  own-alike (said.Wrr w) right = rw (alike .isWafer (w .head) (w .group) (right .1))
+  own-alike said.Mrr right = rw (alike .opened, alike .wafers, alike .pcr)
   own-alike (said.Pcr p) right = refl
-  own-alike (said.Far x) right = refl
+  own-alike (said.Far f) right = refl
   own-alike said.Mir right = refl
   own-alike (said.Bin b) right = refl
   own-alike said.Unread right = refl
 
   later-alike : (order : Order) (place : Place) (rec : List ℕ) → Bytes rec
-      → numberBy (laterChecks order place f opened results pcr rec)
-      ≡ numberBy (laterChecks order place g opened results pcr rec)
+      → numberBy (laterChecks order place x rec) ≡ numberBy (laterChecks order place y rec)
   later-alike order place rec bytes =
       rw (by (readBody order (kindIn rec) (body rec))
       (λ r is. said-right order (kindIn rec) (body rec) r (bytes-drop header rec bytes) is))
     where
       by : (reading : Reading) → ((r : Record) → reading ≡ Fits r → Right r)
-          → numberBy (ownChecks f opened results pcr (saidOf reading))
-          ≡ numberBy (ownChecks g opened results pcr (saidOf reading))
+          → numberBy (ownChecks x (saidOf reading)) ≡ numberBy (ownChecks y (saidOf reading))
       by (Fits r) right = own-alike r (right r refl)
       by Misfit right = refl
+
+-- what a session has of a stream is what its book has
+seen-alike : (b : Book) (s : Session) → Says b s → Alike (seenOf (s .standing) (s .parts)) (seenIn b)
+seen-alike b s p =
+    record {
+      isOpen = λ head site low. sym (p .parts .are head site low);
+      opened = sym (p .parts .many);
+      results = sym (p .results);
+      pcr = sym (p .pcr);
+      onHead = λ head. sym (lists-head (b .wafers) (s .standing .wafers) (wafersOf s) (p .wafers) head);
+      isWafer = λ head group low. sym (p .wafers .are head group low);
+      wafers = sym (p .wafers .many);
+    }
 
 pub says-number : (b : Book) (s : Session) (rec : List ℕ) → Bytes rec → Says b s
     → verdictNumber (verdictOn s rec) ≡ numberBy (recordChecks b rec)
@@ -133,19 +150,14 @@ says-number b s rec bytes p = go (isStart (b .place)) refl
 
     go : (t : Bool) → isStart (b .place) ≡ t
         → verdictNumber (verdictOn s rec)
-        ≡ numberBy
-        (cond t (firstChecks rec)
-        (laterChecks (b .order) (b .place) (isOpen (b .parts)) (length (b .parts)) (length (b .results)) (b .pcr)
-        rec))
+        ≡ numberBy (cond t (firstChecks rec) (laterChecks (b .order) (b .place) (seenIn b) rec))
     go true e =
-        ap verdictNumber (judged-first st (partsOf s) rec (ap isStart (sym (p .place)) ∙ e)) ∙ first-number st rec
+        ap verdictNumber (judged-first st (s .parts) rec (ap isStart (sym (p .place)) ∙ e)) ∙ first-number st rec
     go false e =
-        ap verdictNumber (judged-later st (partsOf s) rec (ap isStart (sym (p .place)) ∙ e))
-        ∙ later-number st (partsOf s) rec
-        ∙ later-alike (λ (head site : ℕ). held (partOf head site) (partsOf s)) (isOpen (b .parts))
-        (λ head site low. sym (p .parts head site low)) (st .opened) (st .results) (st .pcr) (st .order) (st .place)
-        rec bytes
-        ∙ rw (p .place, p .order, p .opened, p .results, p .pcr)
+        ap verdictNumber (judged-later st (s .parts) rec (ap isStart (sym (p .place)) ∙ e))
+        ∙ later-number st (s .parts) rec
+        ∙ later-alike (seenOf st (s .parts)) (seenIn b) (seen-alike b s p) (st .order) (st .place) rec bytes
+        ∙ rw (p .place, p .order)
 
 -- no check of a record has the number 0
 abbrev pub numbers : Check ℕ → Bool
@@ -154,27 +166,22 @@ numbers c = not (eqb (c .answer) 0)
 pub checks-number : (b : Book) (rec : List ℕ) → each numbers (recordChecks b rec) ≡ true
 checks-number b rec = go (isStart (b .place))
   where
-    own : (f : ℕ → ℕ → Bool) (opened results : ℕ) (pcr : Bool) (r : Record)
-        → each numbers (ownChecks f opened results pcr r) ≡ true
-    own f opened results pcr (said.Pir p) = refl
-    own f opened results pcr (said.Prr p) = refl
-    own f opened results pcr said.Mrr = refl
-    own f opened results pcr (said.Pcr p) = refl
-    own f opened results pcr (said.Far g) = refl
-    own f opened results pcr said.Mir = refl
-    own f opened results pcr (said.Bin c) = refl
-    own f opened results pcr said.Unread = refl
+    own : (r : Record) → each numbers (ownChecks (seenIn b) r) ≡ true
+    own (said.Pir p) = refl
+    own (said.Prr p) = refl
+    own (said.Wir w) = refl
+    own (said.Wrr w) = refl
+    own said.Mrr = refl
+    own (said.Pcr p) = refl
+    own (said.Far g) = refl
+    own said.Mir = refl
+    own (said.Bin c) = refl
+    own said.Unread = refl
 
     go : (t : Bool)
-        → each numbers
-        (cond t (firstChecks rec)
-        (laterChecks (b .order) (b .place) (isOpen (b .parts)) (length (b .parts)) (length (b .results)) (b .pcr)
-        rec))
-        ≡ true
+        → each numbers (cond t (firstChecks rec) (laterChecks (b .order) (b .place) (seenIn b) rec)) ≡ true
     go true = refl
-    go false =
-        own (isOpen (b .parts)) (length (b .parts)) (length (b .results)) (b .pcr)
-        (saidOf (readBody (b .order) (kindIn rec) (body rec)))
+    go false = own (saidOf (readBody (b .order) (kindIn rec) (body rec)))
 
 -- ---- a record that is accepted
 
@@ -211,9 +218,10 @@ entered b order place r =
       floor = b .floor;
       place = place;
       order = order;
-      parts = partsAfter r (b .parts);
+      parts = openAfter (onParts r) (b .parts);
       pcr = isPcr r || b .pcr;
       results = resultsIn r ++ b .results;
+      wafers = openAfter (onWafers r) (b .wafers);
     }
 
 -- a later one goes on in its stream's order
@@ -232,24 +240,32 @@ noted-later b rec k q r further of-kind to fits =
       reads,
     )
 
--- one that moves the place alone says nothing of parts and counts
+-- one that moves the place alone says nothing of parts, wafers and counts
 pub record Quiet (r : Record) : Type 0 where
-  pub parts : (ps : List Part) → partsAfter r ps ≡ ps
+  pub parts : onParts r ≡ Neither
   pub pcr : isPcr r ≡ false
   pub results : resultsIn r ≡ []
+  pub wafers : onWafers r ≡ Neither
 
 quieted : (r : Record) → quiet r ≡ true → Quiet r
-quieted (said.Far f) h = record { parts = λ ps. refl; pcr = refl; results = refl }
-quieted said.Mir h = record { parts = λ ps. refl; pcr = refl; results = refl }
-quieted (said.Bin b) h = record { parts = λ ps. refl; pcr = refl; results = refl }
-quieted said.Unread h = record { parts = λ ps. refl; pcr = refl; results = refl }
+quieted (said.Far f) h = record { parts = refl; pcr = refl; results = refl; wafers = refl }
+quieted said.Mir h = record { parts = refl; pcr = refl; results = refl; wafers = refl }
+quieted (said.Bin b) h = record { parts = refl; pcr = refl; results = refl; wafers = refl }
+quieted said.Unread h = record { parts = refl; pcr = refl; results = refl; wafers = refl }
 quieted said.Mrr h = absurd (false≢true h)
 quieted (said.Pcr p) h = absurd (false≢true h)
 quieted (said.Pir p) h = absurd (false≢true h)
 quieted (said.Prr p) h = absurd (false≢true h)
+quieted (said.Wir w) h = absurd (false≢true h)
+quieted (said.Wrr w) h = absurd (false≢true h)
 
 mrr-quiet : Quiet said.Mrr
-mrr-quiet = record { parts = λ ps. refl; pcr = refl; results = refl }
+mrr-quiet = record { parts = refl; pcr = refl; results = refl; wafers = refl }
+
+-- what would tell of something else is not there where that is not
+not-there : (t : Bool) {u : Bool} → (t ≡ true → u ≡ true) → u ≡ false → t ≡ false
+not-there true f e = absurd (false≢true (sym e ∙ f refl))
+not-there false f e = refl
 
 module _ (b : Book) (s : Session) (p : Says b s) where
   abbrev st : Standing
@@ -263,13 +279,11 @@ module _ (b : Book) (s : Session) (p : Says b s) where
         record {
           place = ap (λ (k : Kind). placeAfter (goes (b .place) k)) far ∙ first-place (b .place) start;
           order = is;
-          opened = p .opened;
           parts = p .parts;
-          distinct = p .distinct;
-          low = p .low;
           pcr = p .pcr;
           results = p .results;
           right = p .right;
+          wafers = p .wafers;
         },
         refl,
       )
@@ -277,17 +291,15 @@ module _ (b : Book) (s : Session) (p : Says b s) where
   says-on : (q : Place) (r : Record) → Quiet r → Says (onward b q r) (changed s (stands (at st q)))
   unfolding changed
   says-on q r none =
-      rw (none .pcr, none .results, none .parts (b .parts))
+      rw (none .pcr, none .results, none .parts, none .wafers)
       (record {
         place = refl;
         order = p .order;
-        opened = p .opened;
         parts = p .parts;
-        distinct = p .distinct;
-        low = p .low;
         pcr = p .pcr;
         results = p .results;
         right = p .right;
+        wafers = p .wafers;
       })
 
   says-pcr : (q : Place) (x : Pcr) → Says (onward b q (said.Pcr x)) (changed s (stands (withPcr (at st q))))
@@ -296,36 +308,37 @@ module _ (b : Book) (s : Session) (p : Says b s) where
       record {
         place = refl;
         order = p .order;
-        opened = p .opened;
         parts = p .parts;
-        distinct = p .distinct;
-        low = p .low;
         pcr = refl;
         results = p .results;
         right = p .right;
+        wafers = p .wafers;
       }
 
-  module _ (long : length (s .parts) ≡ mostOpen) (e : sound s ≡ true) (q : Place) where
+  -- the wafers, by the cells that they are in
+  abbrev Behind : List ℕ → Type 0
+  Behind cells = Lists (b .wafers) (st .wafers) (take (st .wafers) cells)
+
+  module _ (long : length (s .parts) ≡ cellCount) (e : sound s ≡ true) (q : Place) where
     -- a part opens
     says-pir : (x : Pir) → x .site < 256 → held (partOf (x .head) (x .site)) (partsOf s) ≡ false → st .opened < mostOpen
         → Says (onward b q (said.Pir x))
         (changed s (opens (at st q) (rank (partOf (x .head) (x .site)) (partsOf s)) (partOf (x .head) (x .site))))
-    unfolding changed isOpen
+    unfolding changed
     says-pir x small new few =
         let number = partOf (x .head) (x .site) in
         record {
           place = refl;
           order = p .order;
-          opened = omega (arith, p .opened);
-          parts = λ head site low.
-              ap₂ _||_ (sym (part-same (x .head) (x .site) head site small low)) (p .parts head site low)
-              ∙ sym (held-insert (partOf head site) (partsOf s) (rank number (partsOf s)) number)
-              ∙ ap (held (partOf head site)) (sym (parts-opened s long e number few));
-          distinct = (p .parts (x .head) (x .site) small ∙ new, p .distinct);
-          low = (small, p .low);
+          parts =
+              subst (Lists (part (x .head) (x .site) ∷ b .parts) (st .opened + 1))
+              (sym (parts-opened s long e number few))
+              (lists-opened (b .parts) (st .opened) (partsOf s) (p .parts) (x .head) (x .site) small
+              (rank number (partsOf s)) new);
           pcr = p .pcr;
           results = p .results;
           right = p .right;
+          wafers = subst Behind (sym (opened-beside s long e number few)) (p .wafers);
         }
 
     -- a part closes, with its result
@@ -334,37 +347,81 @@ module _ (b : Book) (s : Session) (p : Says b s) where
     unfolding changed
     says-prr x told there =
         let number = partOf (x .head) (x .site) in
-        let listed : isOpen (b .parts) (x .head) (x .site) ≡ true = p .parts (x .head) (x .site) (told .1) ∙ there in
         record {
           place = refl;
           order = p .order;
-          opened = omega (arith, p .opened, length-without (x .head) (x .site) (b .parts) (p .distinct) listed);
-          parts = λ head site low.
-              open-without (x .head) (x .site) (b .parts) head site
-              ∙ ap₂ (λ (a c : Bool). not a && c) (sym (part-same (x .head) (x .site) head site (told .1) low))
-              (p .parts head site low)
-              ∙ sym (held-remove (partOf head site) number (partsOf s) (sound-parts-told s e .rises) there)
-              ∙ ap (held (partOf head site)) (sym (parts-closed s long e number there));
-          distinct = distinct-without (x .head) (x .site) (b .parts) (p .distinct);
-          low = low-without (x .head) (x .site) (b .parts) (p .low);
+          parts =
+              subst (Lists (without (x .head) (x .site) (b .parts)) (st .opened - 1))
+              (sym (parts-closed s long e number there))
+              (lists-closed (b .parts) (st .opened) (partsOf s) (p .parts) (x .head) (x .site) (told .1)
+              (sound-parts-told s e .rises) there);
           pcr = p .pcr;
           results = omega (arith, p .results);
           right = (result-right x told, p .right);
+          wafers = subst Behind (sym (closed-beside s long e number there)) (p .wafers);
+        }
+
+    -- a wafer opens
+    says-wir : (w : Wafer) → w .group < 256 → held (w .head) (map waferHead (wafersOf s)) ≡ false
+        → st .wafers < mostWafers
+        → Says (onward b q (said.Wir w))
+        (changed s
+        (waferOpens (at st q) (rank (w .head) (map waferHead (wafersOf s))) (waferNumber (w .head) (w .group))))
+    unfolding changed
+    says-wir w small new few =
+        let number = waferNumber (w .head) (w .group) in
+        let then = wafers-opened s long e (w .head) number few in
+        let none : held number (wafersOf s) ≡ false =
+        not-there (held number (wafersOf s)) (wafer-on (w .head) (w .group) (wafersOf s) small) new in
+        record {
+          place = refl;
+          order = p .order;
+          parts = subst (Lists (b .parts) (st .opened)) (sym (then .0)) (p .parts);
+          pcr = p .pcr;
+          results = p .results;
+          right = p .right;
+          wafers =
+              subst (Lists (part (w .head) (w .group) ∷ b .wafers) (st .wafers + 1))
+              (sym (then .1))
+              (lists-opened (b .wafers) (st .wafers) (wafersOf s) (p .wafers) (w .head) (w .group) small
+              (rank (w .head) (map waferHead (wafersOf s))) none);
+        }
+
+    -- a wafer closes
+    says-wrr : (w : Wafer) → w .group < 256 → held (waferNumber (w .head) (w .group)) (wafersOf s) ≡ true
+        → Says (onward b q (said.Wrr w))
+        (changed s (waferCloses (at st q) (rank (waferNumber (w .head) (w .group)) (wafersOf s))))
+    unfolding changed
+    says-wrr w small there =
+        let then = wafers-closed s long e (waferNumber (w .head) (w .group)) there in
+        record {
+          place = refl;
+          order = p .order;
+          parts = subst (Lists (b .parts) (st .opened)) (sym (then .0)) (p .parts);
+          pcr = p .pcr;
+          results = p .results;
+          right = p .right;
+          wafers =
+              subst (Lists (without (w .head) (w .group) (b .wafers)) (st .wafers - 1))
+              (sym (then .1))
+              (lists-closed (b .wafers) (st .wafers) (wafersOf s) (p .wafers) (w .head) (w .group) small
+              (sound-wafers-rise s e) there);
         }
 
   -- any record
-  module _ (rec : List ℕ) (bytes : Bytes rec) (long : length (s .parts) ≡ mostOpen) (e : sound s ≡ true) where
+  module _ (rec : List ℕ) (bytes : Bytes rec) (long : length (s .parts) ≡ cellCount) (e : sound s ≡ true) where
     booked-first : isStart (b .place) ≡ true → Booked b s rec (judgeFirst st rec)
     booked-first start =
-        first-cases (partsOf s) First (λ a own far. tt) st rec (λ order is far. says-first rec order start (far refl) is)
+        first-cases (partsOf s) First (λ a own far. tt) st rec
+        (λ order is far. says-first rec order start (far refl) is)
         (λ zero. first-accepted st rec zero .far)
       where
         First : Verdict → Type 0
         First v = (verdictNumber v ≡ 0 → kindIn rec ≡ kind.Far) → Booked b s rec v
 
-    booked-said : (q : Place) (r : Record) → Right r → BookedAs s (onward b q r) r (judgeSaid (at st q) (partsOf s) r)
+    booked-said : (q : Place) (r : Record) → Right r → BookedAs s (onward b q r) r (judgeSaid (at st q) (s .parts) r)
     booked-said q r told =
-        said-cases (partsOf s) (BookedAs s (onward b q r) r) (λ a own. tt) (at st q) r
+        said-cases (at st q) (s .parts) (BookedAs s (onward b q r) r) (λ a own. tt) r
         (λ h. (says-on q r (quieted r h), quieted r h .results))
         (λ x is. by (Taken (stands (withPcr (at st q)))) (said.Pcr x) is (says-pcr q x, refl))
         (λ x is new few.
@@ -381,18 +438,28 @@ module _ (b : Book) (s : Session) (p : Says b s) where
           record { result = asResult x; right = result-right x result-told; under = refl; only = refl },
         ))
         (λ is done. by (Taken (stands (at st q))) said.Mrr is (says-on q said.Mrr mrr-quiet, refl))
+        (λ w is new few.
+        let wafer-told : Right (said.Wir w) = subst Right is told in
+        by
+        (Taken
+        (waferOpens (at st q) (rank (w .head) (map waferHead (wafersOf s))) (waferNumber (w .head) (w .group))))
+        (said.Wir w) is (says-wir long e q w (wafer-told .1) new few, refl))
+        (λ w is there.
+        let wafer-told : Right (said.Wrr w) = subst Right is told in
+        by (Taken (waferCloses (at st q) (rank (waferNumber (w .head) (w .group)) (wafersOf s)))) (said.Wrr w) is
+        (says-wrr long e q w (wafer-told .1) there, refl))
       where
         by : (v : Verdict) (y : Record) → r ≡ y → BookedAs s (onward b q y) y v → BookedAs s (onward b q r) r v
         by v y is h = subst (λ (x : Record). BookedAs s (onward b q x) x v) (sym is) h
 
-    booked-later : isStart (b .place) ≡ false → Booked b s rec (judgeLater st (partsOf s) rec)
+    booked-later : isStart (b .place) ≡ false → Booked b s rec (judgeLater st (s .parts) rec)
     booked-later further =
-        later-cases (partsOf s) (Booked b s rec) (λ a own. tt) st rec (λ k q r named to fits.
+        later-cases st (s .parts) (Booked b s rec) (λ a own. tt) rec (λ k q r named to fits.
         let to-next : goes (b .place) k ≡ To q = ap (λ (x : Place). goes x k) (p .place) ∙ to in
         let reads : readBody (b .order) k (body rec) ≡ Fits r =
         ap (λ (o : Order). readBody o k (body rec)) (p .order) ∙ fits in
         let is = noted-later b rec k q r further named to-next reads in
-        subst₂ (λ (c : Book) (x : Record). BookedAs s c x (judgeSaid (at st q) (partsOf s) r)) (sym (is .0))
+        subst₂ (λ (c : Book) (x : Record). BookedAs s c x (judgeSaid (at st q) (s .parts) r)) (sym (is .0))
         (sym (is .1))
         (booked-said q r (said-right (st .order) k (body rec) r (bytes-drop header rec bytes) fits)))
 
@@ -401,8 +468,8 @@ module _ (b : Book) (s : Session) (p : Says b s) where
       where
         go : (t : Bool) → isStart (b .place) ≡ t → Booked b s rec (verdictOn s rec)
         go true start =
-            subst (Booked b s rec) (sym (judged-first st (partsOf s) rec (ap isStart (sym (p .place)) ∙ start)))
+            subst (Booked b s rec) (sym (judged-first st (s .parts) rec (ap isStart (sym (p .place)) ∙ start)))
             (booked-first start)
         go false further =
-            subst (Booked b s rec) (sym (judged-later st (partsOf s) rec (ap isStart (sym (p .place)) ∙ further)))
+            subst (Booked b s rec) (sym (judged-later st (s .parts) rec (ap isStart (sym (p .place)) ∙ further)))
             (booked-later further)

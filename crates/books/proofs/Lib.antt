@@ -1,4 +1,5 @@
 pub mod Parts
+pub mod Listed
 pub mod Following
 pub mod Booked
 pub mod Told
@@ -9,3 +10,4 @@ pub mod Spelling
 pub mod Smallest
 pub mod Right
 pub mod Whole
+pub mod Wafers

@@ -5,10 +5,9 @@ use mathlib.Core.Path.{_≡_, refl, ap, sym, _∙_}
 use mathlib.Core.Bool.{Bool, true, false, cond, not, _&&_, _||_}
 use mathlib.Core.List.{List, [], _∷_, _++_, map, reverse-cons}
 use Prim.Native.Nat.{ℕ}
+use lib.Dec.{eqb}
 use Rattle.kinds.specs.declared.Kind.{Kind}
 use Rattle.frames.specs.Frames.{body}
-use Rattle.bodies.specs.declared.Record.{Record}
-use Rattle.bodies.specs.declared.Record.the-variants as said
 use Rattle.bodies.specs.Bodies.{readBody, saidOf}
 use Rattle.order.specs.declared.Place.{Place}
 use Rattle.order.specs.declared.Place.the-variants.{Start, Header, Lot, Setup, Body, Ended}
@@ -21,11 +20,13 @@ use Rattle.order.proofs.Spelled.{led-on}
 use Rattle.session.specs.Session.{isStart}
 use Rattle.house.specs.History.{Call, Open, Deliver, Report, Close, Figured, Said, names}
 use Rattle.tallies.specs.Results.{PartResult}
-use Rattle.books.specs.Book.{Part, isOpen, Book, book, nothing, kindIn, partsAfter, resultsIn, isPcr}
+use Rattle.books.specs.Book.{Part, isOpen, Book, book, nothing, kindIn, resultsIn, Effect, Opening, Closing}
+use Rattle.books.specs.Book.{Neither, onParts, onWafers, openAfter, isPcr}
 use Rattle.house.specs.Tally.{isDone}
 use Rattle.books.specs.Book.{noted, doneBy, heard, heardFrom, bookOf}
 use Rattle.books.specs.Meaning.{takenBy, taken, acceptedFrom, accepted, kindsOf, toldOrder, readings, about}
-use Rattle.books.specs.Meaning.{isPir, lastOpens, anyPcr, resultsOf, PartsMean, PcrMeans, ResultsMean, PlaceMeans}
+use Rattle.books.specs.Meaning.{isOpening, lastOpens, anyPcr, resultsOf, PartsMean, WafersMean, PcrMeans}
+use Rattle.books.specs.Meaning.{ResultsMean, PlaceMeans}
 use Rattle.books.proofs.Parts.{open-without}
 
 -- ---- the place
@@ -51,29 +52,24 @@ led-next : (rec : List ℕ) (recs : List (List ℕ))
 led-next rec recs =
     ap (led Start) (reverse-cons (kindIn rec) (map kindIn recs)) ∙ led-on Start (kindsOf recs) (kindIn rec)
 
--- ---- the open parts
+-- ---- the open parts, and the open wafers
 
--- what one record makes of them: the last word on a part is its own, if it is about it
-open-after : (r : Record) (ps : List Part) (head site : ℕ)
-    → isOpen (partsAfter r ps) head site ≡ cond (about head site r) (isPir r) (isOpen ps head site)
+-- what one record makes of them: the last word on one is its own, if it is about it
+open-after : (x : Effect) (ps : List Part) (head site : ℕ)
+    → isOpen (openAfter x ps) head site ≡ cond (about head site x) (isOpening x) (isOpen ps head site)
 unfolding isOpen
-open-after (said.Pir p) ps head site = go (about head site (said.Pir p)) (isOpen ps head site)
+open-after (Opening h s) ps head site = go (eqb h head && eqb s site) (isOpen ps head site)
   where
     go : (own before : Bool) → (own || before) ≡ cond own true before
     go true before = refl
     go false before = refl
-open-after (said.Prr p) ps head site =
-    open-without (p .head) (p .site) ps head site ∙ go (about head site (said.Prr p)) (isOpen ps head site)
+open-after (Closing h s) ps head site =
+    open-without h s ps head site ∙ go (eqb h head && eqb s site) (isOpen ps head site)
   where
     go : (own before : Bool) → (not own && before) ≡ cond own false before
     go true before = refl
     go false before = refl
-open-after (said.Far f) ps head site = refl
-open-after said.Mir ps head site = refl
-open-after said.Mrr ps head site = refl
-open-after (said.Pcr p) ps head site = refl
-open-after (said.Bin b) ps head site = refl
-open-after said.Unread ps head site = refl
+open-after Neither ps head site = refl
 
 -- ---- a book and the accepted records
 
@@ -81,18 +77,35 @@ abbrev none : List (List ℕ) → Bool
 none [] = true
 none (rec ∷ recs) = false
 
+-- of parts, or of wafers
+abbrev OpenedBy : List Part → List Effect → Type 0
+OpenedBy ps xs = (head site : ℕ) → isOpen ps head site ≡ lastOpens head site xs
+
+opened-by : (x : Effect) (ps : List Part) (xs : List Effect) → OpenedBy ps xs → OpenedBy (openAfter x ps) (x ∷ xs)
+opened-by x ps xs before head site =
+    open-after x ps head site ∙ ap (cond (about head site x) (isOpening x)) (before head site)
+
 pub record Means (b : Book) (recs : List (List ℕ)) : Type 0 where
   pub begun : isStart (b .place) ≡ none recs
   pub order : b .order ≡ toldOrder recs
   pub place : b .place ≡ led Start (kindsOf recs)
-  pub parts : (head site : ℕ) → isOpen (b .parts) head site ≡ lastOpens head site (readings recs)
+  pub parts : OpenedBy (b .parts) (map onParts (readings recs))
   pub pcr : b .pcr ≡ anyPcr (readings recs)
   pub results : b .results ≡ resultsOf (readings recs)
+  pub wafers : OpenedBy (b .wafers) (map onWafers (readings recs))
 
 means-anew : (opened : Bool) (floor : ℕ) → Means (book opened floor) []
 unfolding isOpen
 means-anew opened floor =
-    record { begun = refl; order = refl; place = refl; parts = λ head site. refl; pcr = refl; results = refl }
+    record {
+      begun = refl;
+      order = refl;
+      place = refl;
+      parts = λ head site. refl;
+      pcr = refl;
+      results = refl;
+      wafers = λ head group. refl;
+    }
 
 -- one record more
 means-noted : (rec : List ℕ) (recs : List (List ℕ)) (b : Book) → Means b recs → Means (noted rec b) (rec ∷ recs)
@@ -101,9 +114,10 @@ means-noted rec [] b m =
       begun = past-start (b .place) (kindIn rec);
       order = rw (m .begun);
       place = rw (m .place);
-      parts = λ head site. rw (m .begun) (m .parts head site);
+      parts = rw (m .begun) (m .parts);
       pcr = rw (m .begun) (m .pcr);
       results = rw (m .begun) (m .results);
+      wafers = rw (m .begun) (m .wafers);
     }
 means-noted rec (before ∷ older) b m =
     let recs = before ∷ older in
@@ -112,12 +126,11 @@ means-noted rec (before ∷ older) b m =
       begun = past-start (b .place) (kindIn rec);
       order = rw (m .begun) (m .order);
       place = ap (λ (p : Place). placeAfter (goes p (kindIn rec))) (m .place) ∙ sym (led-next rec recs);
-      parts = λ head site.
-          rw (m .begun, m .order)
-          (open-after r (b .parts) head site
-          ∙ ap (cond (about head site r) (isPir r)) (m .parts head site));
+      parts = rw (m .begun, m .order) (opened-by (onParts r) (b .parts) (map onParts (readings recs)) (m .parts));
       pcr = rw (m .begun, m .order) (ap (λ (t : Bool). isPcr r || t) (m .pcr));
       results = rw (m .begun, m .order) (ap (λ (t : List PartResult). resultsIn r ++ t) (m .results));
+      wafers =
+          rw (m .begun, m .order) (opened-by (onWafers r) (b .wafers) (map onWafers (readings recs)) (m .wafers));
     }
 
 -- any calls and answers
@@ -143,6 +156,9 @@ means-told slot es = means-from slot es nothing [] (means-anew false 0)
 
 pub parts-mean : PartsMean
 parts-mean slot es head site = means-told slot es .parts head site
+
+pub wafers-mean : WafersMean
+wafers-mean slot es head group = means-told slot es .wafers head group
 
 pub pcr-means : PcrMeans
 pcr-means slot es = means-told slot es .pcr

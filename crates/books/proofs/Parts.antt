@@ -134,7 +134,7 @@ abbrev pub number : Part → ℕ
 number p = partOf (p .head) (p .site)
 
 -- one that is open is the first, or one of the others
-open-by : {C : Type 0} (p : Part) (ps : List Part) (head site : ℕ) → isOpen (p ∷ ps) head site ≡ true
+pub open-by : {C : Type 0} (p : Part) (ps : List Part) (head site : ℕ) → isOpen (p ∷ ps) head site ≡ true
     → (p .head ≡ head → p .site ≡ site → C) → (isOpen ps head site ≡ true → C) → C
 unfolding isOpen
 open-by {C = C} p ps head site e here there = go (isAt head site p) refl e

@@ -42,7 +42,9 @@ pub rows-kept : RowsKept
 rows-kept calls sent = ap₂ _+_ (free-by calls sent) (rows-over calls sent) ∙ counting.rows-tallied calls sent
 
 pub shut-none : ShutNone
-shut-none slot calls sent shut = book-agrees slot calls sent .shut shut
+shut-none slot calls sent shut =
+    let is = book-agrees slot calls sent .shut shut in
+    (ap (λ (b : Book). b .floor) is, ap (λ (b : Book). b .results) is)
 
 pub free-promised : FreePromised
 free-promised calls sent =

@@ -21,7 +21,7 @@ use Rattle.bodies.specs.Bodies.{readBody, saidOf}
 use Rattle.rising.specs.Rising.{held}
 use Rattle.rising.proofs.Laws.{below-at}
 use Rattle.session.specs.declared.Session.{Session}
-use Rattle.session.specs.Session.{mostOpen, partOf, partHead, partSite, smallest, partsOf, isStart, sound}
+use Rattle.session.specs.Session.{cellCount, partOf, partHead, partSite, smallest, partsOf, isStart, sound}
 use Rattle.session.specs.Verdicts.{stillOpen}
 use Rattle.session.proofs.Laws.{sound-parts-told, smallest-held, smallest-least}
 use Rattle.session.proofs.Keys.{part-rises, part-gives}
@@ -38,7 +38,8 @@ use Rattle.house.proofs.Keeping.{reached-sound}
 use Rattle.house.proofs.Counting.{passed, reached-shaped}
 use Rattle.house.proofs.Rooms.{Refusals, deliver-carries, plain-answer}
 use Rattle.books.specs.Book.{Part, isOpen, leastOf, smallestOf, Book, kindIn, bookOf}
-use Rattle.books.specs.Told.{numberTold, valuesTold, recordChecks, roomTo, Smallest, ValuesTold, SmallestTold}
+use Rattle.books.specs.Told.{numberTold, valuesTold, seenIn, recordChecks, roomTo, Smallest, ValuesTold}
+use Rattle.books.specs.Told.{SmallestTold}
 use Rattle.books.proofs.Parts.{Low, number, open-low, least-open, least-low, least-first}
 use Rattle.books.proofs.Following.{Says}
 use Rattle.books.proofs.Booked.{book-agrees}
@@ -51,7 +52,7 @@ use Rattle.books.proofs.Spelling.{spares, never-given, own-spare}
 abbrev carriedFor : Session → Values
 carriedFor s = valuesOf (stillOpen (partsOf s))
 
-module _ (b : Book) (s : Session) (p : Says b s) (long : length (s .parts) ≡ mostOpen) (e : sound s ≡ true) where
+module _ (b : Book) (s : Session) (p : Says b s) (long : length (s .parts) ≡ cellCount) (e : sound s ≡ true) where
   abbrev first : ℕ
   first = smallest (partsOf s)
 
@@ -59,10 +60,10 @@ module _ (b : Book) (s : Session) (p : Says b s) (long : length (s .parts) ≡ m
   first-least q qs is =
       let least = leastOf q qs in
       let told = sound-parts-told s e in
-      let low : Low (q ∷ qs) = subst Low is (p .low) in
+      let low : Low (q ∷ qs) = subst Low is (p .parts .low) in
       let says : (head site : ℕ) → site < 256 → isOpen (q ∷ qs) head site ≡ held (partOf head site) (partsOf s)
-      = λ head site small. ap (λ (ps : List Part). isOpen ps head site) (sym is) ∙ p .parts head site small in
-      let some : 0 < length (partsOf s) = omega (arith, opened-long s long e, p .opened, ap length is) in
+      = λ head site small. ap (λ (ps : List Part). isOpen ps head site) (sym is) ∙ p .parts .are head site small in
+      let some : 0 < length (partsOf s) = omega (arith, opened-long s long e, p .parts .many, ap length is) in
       let small = least-low q qs low in
       let there : held (number least) (partsOf s) ≡ true =
       sym (says (least .head) (least .site) small) ∙ least-open q qs in
@@ -86,15 +87,11 @@ none-spare b rec room none = go (isStart (b .place))
   where
     go : (t : Bool)
         → each (spares 12)
-        (cond t (firstChecks rec)
-        (laterChecks (b .order) (b .place) (isOpen (b .parts)) (length (b .parts)) (length (b .results)) (b .pcr) rec)
-        ++ ((room else 13) ∷ []))
+        (cond t (firstChecks rec) (laterChecks (b .order) (b .place) (seenIn b) rec) ++ ((room else 13) ∷ []))
         ≡ true
     go true = refl
     go false =
-        rw none
-        (own-spare 12 0 refl (isOpen []) (length (b .results)) (b .pcr) room
-        (saidOf (readBody (b .order) (kindIn rec) (body rec))))
+        own-spare 12 (seenIn b) (rw none) room (saidOf (readBody (b .order) (kindIn rec) (body rec)))
 
 module _ (calls : List Call) (slot : ℕ) (rec : List ℕ) (sent : AllSent calls) (bytes : Bytes rec) where
   abbrev h : House
@@ -180,7 +177,7 @@ smallest-told calls slot rec sent bytes twelve =
     subst (Smallest ps)
     (sym (deliver-values calls slot rec sent bytes
     ∙ ap (λ (n : ℕ). cond (eqb n 12) (smallestOf ps) values.Nothing) twelve))
-    (smallest-of ps (book-agrees slot calls sent .says .low) (λ none. nothing (is ∙ none)))
+    (smallest-of ps (book-agrees slot calls sent .says .parts .low) (λ none. nothing (is ∙ none)))
   where
     nothing : {head site : ℕ} → values.Part head site ≡ values.Nothing → ⊥
     nothing e = let never : _≡_ {A = ℕ} 0 1 = cc in omega arith

@@ -30,14 +30,14 @@ use Rattle.order.proofs.Spelled.{spelled, spelled-ends, walks-on}
 use Rattle.session.specs.Session.{isStart}
 use Rattle.first_record.specs.Laws.{firstChecks}
 use Rattle.first_record.proofs.Accepted.{first-in-place}
-use Rattle.kind_effects.specs.Laws.{ownChecks}
+use Rattle.kind_effects.specs.Laws.{Seen, ownChecks}
 use Rattle.later_records.specs.Laws.{laterChecks}
 use Rattle.rows.specs.Rows.{slotCount}
 use Rattle.house.specs.House.{fresh}
 use Rattle.house.specs.History.{Call, Deliver, history, AllSent}
 use Rattle.house.proofs.Counting.{holds}
-use Rattle.books.specs.Book.{isOpen, Book, kindIn, bookOf}
-use Rattle.books.specs.Told.{numberTold, recordChecks, roomTo}
+use Rattle.books.specs.Book.{Book, kindIn, bookOf}
+use Rattle.books.specs.Told.{numberTold, seenIn, recordChecks, roomTo}
 use Rattle.books.specs.Meaning.{accepted, kindsOf, KindsSpell, SpellsOn}
 use Rattle.books.proofs.Told.{deliver-told}
 use Rattle.books.proofs.Meaning.{place-means}
@@ -79,28 +79,30 @@ unowned m opened =
     not (eqb 13 m) ∷
     not (eqb 14 m) ∷
     not (eqb 20 m) ∷
+    not (eqb 22 m) ∷
+    not (eqb 23 m) ∷
+    not (eqb 33 m) ∷
     []
 
-module _ (m opened : ℕ) (clear : all (unowned m opened) ≡ true) (opens : ℕ → ℕ → Bool) (results : ℕ) (pcr room : Bool)
-  where
-    spared : (i : ℕ) → getD (unowned m opened) i true ≡ true
-    spared i = all-at (unowned m opened) clear i
+module _ (m : ℕ) (seen : Seen) (clear : all (unowned m (seen .opened)) ≡ true) (room : Bool) where
+  spared : (i : ℕ) → getD (unowned m (seen .opened)) i true ≡ true
+  spared i = all-at (unowned m (seen .opened)) clear i
 
-    pub own-spare : (r : Record)
-        → each (spares m) (ownChecks opens opened results pcr r ++ ((room else 13) ∷ [])) ≡ true
-    own-spare (said.Pir p) = rw (spared 0, spared 2, spared 4)
-    own-spare (said.Prr p) = rw (spared 1, spared 5, spared 4)
-    own-spare said.Mrr = rw (spared 3, spared 6, spared 4)
-    own-spare (said.Pcr p) = rw (spared 4)
-    own-spare (said.Far f) = rw (spared 4)
-    own-spare said.Mir = rw (spared 4)
-    own-spare (said.Bin b) = rw (spared 4)
-    own-spare said.Unread = rw (spared 4)
+  pub own-spare : (r : Record) → each (spares m) (ownChecks seen r ++ ((room else 13) ∷ [])) ≡ true
+  own-spare (said.Pir p) = rw (spared 0, spared 2, spared 4)
+  own-spare (said.Prr p) = rw (spared 1, spared 5, spared 4)
+  own-spare (said.Wir w) = rw (spared 7, spared 8, spared 4)
+  own-spare (said.Wrr w) = rw (spared 7, spared 4)
+  own-spare said.Mrr = rw (spared 3, spared 9, spared 6, spared 4)
+  own-spare (said.Pcr p) = rw (spared 4)
+  own-spare (said.Far f) = rw (spared 4)
+  own-spare said.Mir = rw (spared 4)
+  own-spare (said.Bin b) = rw (spared 4)
+  own-spare said.Unread = rw (spared 4)
 
 module _ (b : Book) (rec : List ℕ) (room : Bool) where
   abbrev later : List (Check ℕ)
-  later =
-      laterChecks (b .order) (b .place) (isOpen (b .parts)) (length (b .parts)) (length (b .results)) (b .pcr) rec
+  later = laterChecks (b .order) (b .place) (seenIn b) rec
 
   abbrev placed : Bool
   placed = inPlace (goes (b .place) (kindIn rec))
@@ -133,9 +135,7 @@ module _ (b : Book) (rec : List ℕ) (room : Bool) where
           → each (spares 8) (cond t (firstChecks rec) later ++ ((room else 13) ∷ [])) ≡ true
       go true starts = rw (sym (first-placed starts) ∙ is)
       go false further =
-          rw is
-          (own-spare 8 (length (b .parts)) refl (isOpen (b .parts)) (length (b .results)) (b .pcr) room
-          (saidOf (readBody (b .order) (kindIn rec) (body rec))))
+          rw is (own-spare 8 (seenIn b) refl room (saidOf (readBody (b .order) (kindIn rec) (body rec))))
 
 -- ---- one record more
 

@@ -1,12 +1,13 @@
 -- The book of a slot: what calls and their answers tell of it, in the words of document 01. No definition here looks at
 -- a house, a session or a row's key.
 --
---   Part               an open part: a head and a site; isOpen, without, whether one is open, and the parts without it
+--   Part               an open part: a head and a site, or an open wafer: a head and a site group; isOpen, without,
+--                      whether one is open, and those without it; onHead, whether one is open on a head
 --   smallestOf         the smallest head and site of open parts, in the order of a report
 --   Book               open or not, its floor, its place in the stream, its byte order, its open parts, whether a PCR
---                      was accepted, its accepted part results, the last first
---   noted              .. after one more accepted record; saidIn, what such a record says; resultsIn, partsAfter,
---                      isPcr, what that makes of a book
+--                      was accepted, its accepted part results, the last first, its open wafers
+--   noted              .. after one more accepted record; saidIn, what such a record says; resultsIn, isPcr, onParts,
+--                      onWafers, what that makes of a book; openAfter, which parts or wafers are open after it
 --   heard              .. after one more call and its answer
 --   bookOf             .. after all of a history
 --   rowsIn             how many rows its tally has
@@ -39,8 +40,9 @@ use Rattle.house.specs.History.{Call, Open, Deliver, Report, Close, Figured, Sa
 use Rattle.house.specs.Tally.{isDone}
 use Rattle.tallies.specs.Results.{PartResult, tallyOf}
 
--- ---- open parts
+-- ---- open parts and open wafers
 
+-- #103: a wafer is told as a part is, by its head and, in place of a site, its site group
 pub record Part : Type 0 where
   pub head : ℕ
   pub site : ℕ
@@ -58,6 +60,11 @@ isOpen (p ∷ ps) head site = isAt head site p || isOpen ps head site
 unfoldable pub without : ℕ → ℕ → List Part → List Part
 without head site [] = []
 without head site (p ∷ ps) = cond (isAt head site p) (without head site ps) (p ∷ without head site ps)
+
+-- #103: one wafer a head
+unfoldable pub onHead : List Part → ℕ → Bool
+onHead [] head = false
+onHead (w ∷ ws) head = eqb (w .head) head || onHead ws head
 
 -- #101: in rising order of head, then site
 abbrev pub precedes : Part → Part → Bool
@@ -81,6 +88,7 @@ pub record Book : Type 0 where
   pub parts : List Part
   pub pcr : Bool
   pub results : List PartResult
+  pub wafers : List Part
 
 abbrev pub book : Bool → ℕ → Book
 book opened floor =
@@ -92,6 +100,7 @@ book opened floor =
       parts = [];
       pcr = false;
       results = [];
+      wafers = [];
     }
 
 -- a closed slot holds nothing; a slot opened starts anew
@@ -122,18 +131,46 @@ resultsIn said.Mrr = []
 resultsIn (said.Pcr p) = []
 resultsIn (said.Bin b) = []
 resultsIn (said.Pir p) = []
+resultsIn (said.Wir w) = []
+resultsIn (said.Wrr w) = []
 resultsIn said.Unread = []
 
+-- what an accepted record is to the open parts, or to the open wafers: it opens one, closes one, or neither
+pub data Effect : Type 0 where
+  Opening : ℕ → ℕ → Effect
+  Closing : ℕ → ℕ → Effect
+  Neither : Effect
+
 -- PIR opens (head, site), PRR closes it
-abbrev pub partsAfter : Record → List Part → List Part
-partsAfter (said.Pir p) parts = part (p .head) (p .site) ∷ parts
-partsAfter (said.Prr p) parts = without (p .head) (p .site) parts
-partsAfter (said.Far f) parts = parts
-partsAfter said.Mir parts = parts
-partsAfter said.Mrr parts = parts
-partsAfter (said.Pcr p) parts = parts
-partsAfter (said.Bin b) parts = parts
-partsAfter said.Unread parts = parts
+abbrev pub onParts : Record → Effect
+onParts (said.Pir p) = Opening (p .head) (p .site)
+onParts (said.Prr p) = Closing (p .head) (p .site)
+onParts (said.Wir w) = Neither
+onParts (said.Wrr w) = Neither
+onParts (said.Far f) = Neither
+onParts said.Mir = Neither
+onParts said.Mrr = Neither
+onParts (said.Pcr p) = Neither
+onParts (said.Bin b) = Neither
+onParts said.Unread = Neither
+
+-- #103: WIR opens the wafer of its head and site group, WRR closes it; wafers and parts are not tied to each other
+abbrev pub onWafers : Record → Effect
+onWafers (said.Wir w) = Opening (w .head) (w .group)
+onWafers (said.Wrr w) = Closing (w .head) (w .group)
+onWafers (said.Pir p) = Neither
+onWafers (said.Prr p) = Neither
+onWafers (said.Far f) = Neither
+onWafers said.Mir = Neither
+onWafers said.Mrr = Neither
+onWafers (said.Pcr p) = Neither
+onWafers (said.Bin b) = Neither
+onWafers said.Unread = Neither
+
+abbrev pub openAfter : Effect → List Part → List Part
+openAfter (Opening head site) ps = part head site ∷ ps
+openAfter (Closing head site) ps = without head site ps
+openAfter Neither ps = ps
 
 abbrev pub isPcr : Record → Bool
 isPcr (said.Pcr p) = true
@@ -143,6 +180,8 @@ isPcr said.Mrr = false
 isPcr (said.Bin b) = false
 isPcr (said.Pir p) = false
 isPcr (said.Prr p) = false
+isPcr (said.Wir w) = false
+isPcr (said.Wrr w) = false
 isPcr said.Unread = false
 
 -- its kind takes the stream to its next place, the first one tells the byte order, and each says what it says
@@ -154,9 +193,10 @@ noted rec b =
       floor = b .floor;
       place = placeAfter (goes (b .place) (kindIn rec));
       order = cond (isStart (b .place)) (orderIn rec) (b .order);
-      parts = partsAfter r (b .parts);
+      parts = openAfter (onParts r) (b .parts);
       pcr = isPcr r || b .pcr;
       results = resultsIn r ++ b .results;
+      wafers = openAfter (onWafers r) (b .wafers);
     }
 
 -- ---- calls and their answers

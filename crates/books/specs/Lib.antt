@@ -1,3 +1,4 @@
 pub mod Book
 pub mod Told
 pub mod Meaning
+pub mod Wafers

@@ -7,8 +7,8 @@
 --   kindsOf     their kinds, the first first
 --   toldOrder   the byte order that the first of them told
 --   readings    what those behind the first say in that order, the last first
---   lastOpens   whether the last of these that is about a part opened it; anyPcr, whether one is a PCR; resultsOf, the
---               part results among them
+--   lastOpens   whether the last of effects that is about a part, or a wafer, opened it
+--   anyPcr      whether one of the readings is a PCR; resultsOf, the part results among them
 --   EachRight   that each of the accepted records is right in itself; someKind, whether the kind of one passes a test
 -- Assumes nothing.
 use mathlib.Core.Path.{_≡_}
@@ -20,12 +20,11 @@ use Rattle.numbers.specs.declared.Order.{Order}
 use Rattle.numbers.specs.declared.Order.the-variants.{HighFirst}
 use Rattle.numbers.specs.Laws.{Bytes}
 use Rattle.kinds.specs.declared.Kind.{Kind}
-use Rattle.kinds.specs.declared.Kind.the-variants.{Far, Atr, Mir, Mrr, Pcr, Hbr, Sbr, Rdr, Sdr, Pir, Prr, Remaining}
-use Rattle.kinds.specs.declared.Kind.the-variants.{Custom, Unknown}
+use Rattle.kinds.specs.declared.Kind.the-variants.{Far, Atr, Mir, Mrr, Pcr, Hbr, Sbr, Rdr, Sdr, Pir, Prr, Wir, Wrr}
+use Rattle.kinds.specs.declared.Kind.the-variants.{Remaining, Custom, Unknown}
 use Rattle.kinds.specs.Kinds.{known}
 use Rattle.frames.specs.Frames.{body, isRecord}
 use Rattle.bodies.specs.declared.Record.{Record}
-use Rattle.bodies.specs.declared.Record.the-variants as said
 use Rattle.bodies.specs.Bodies.{readBody, fitting, saidOf}
 use Rattle.order.specs.declared.Place.the-variants.{Start}
 use Rattle.order.specs.Laws.{ended}
@@ -36,7 +35,8 @@ use Rattle.house.specs.House.{fresh}
 use Rattle.house.specs.History.{Call, Open, Deliver, Report, Close, Figured, Said, names, history, AllSent}
 use Rattle.tallies.specs.Results.{PartResult}
 use Rattle.house.specs.Tally.{isDone}
-use Rattle.books.specs.Book.{isOpen, kindIn, resultsIn, isPcr, bookOf}
+use Rattle.books.specs.Book.{isOpen, kindIn, resultsIn, Effect, Opening, Closing, Neither, onParts, onWafers}
+use Rattle.books.specs.Book.{isPcr, bookOf}
 use Rattle.books.specs.Told.{numberTold}
 
 -- ---- the accepted records
@@ -76,31 +76,21 @@ readings (rec ∷ []) = []
 readings (rec ∷ before ∷ recs) =
     saidOf (readBody (toldOrder (before ∷ recs)) (kindIn rec) (body rec)) ∷ readings (before ∷ recs)
 
--- PIR opens (head, site), PRR closes it: no other record is about a part
-abbrev pub about : ℕ → ℕ → Record → Bool
-about head site (said.Pir p) = eqb (p .head) head && eqb (p .site) site
-about head site (said.Prr p) = eqb (p .head) head && eqb (p .site) site
-about head site (said.Far f) = false
-about head site said.Mir = false
-about head site said.Mrr = false
-about head site (said.Pcr p) = false
-about head site (said.Bin b) = false
-about head site said.Unread = false
+-- an effect is about a part, or a wafer, that it opens or closes
+abbrev pub about : ℕ → ℕ → Effect → Bool
+about head site (Opening h s) = eqb h head && eqb s site
+about head site (Closing h s) = eqb h head && eqb s site
+about head site Neither = false
 
-abbrev pub isPir : Record → Bool
-isPir (said.Pir p) = true
-isPir (said.Prr p) = false
-isPir (said.Far f) = false
-isPir said.Mir = false
-isPir said.Mrr = false
-isPir (said.Pcr p) = false
-isPir (said.Bin b) = false
-isPir said.Unread = false
+abbrev pub isOpening : Effect → Bool
+isOpening (Opening h s) = true
+isOpening (Closing h s) = false
+isOpening Neither = false
 
--- the last record about a part is a PIR; a part that none is about is not open
-abbrev pub lastOpens : ℕ → ℕ → List Record → Bool
+-- the last that is about it opened it; what none is about is not open
+abbrev pub lastOpens : ℕ → ℕ → List Effect → Bool
 lastOpens head site [] = false
-lastOpens head site (r ∷ rs) = cond (about head site r) (isPir r) (lastOpens head site rs)
+lastOpens head site (x ∷ xs) = cond (about head site x) (isOpening x) (lastOpens head site xs)
 
 abbrev pub anyPcr : List Record → Bool
 anyPcr [] = false
@@ -115,7 +105,12 @@ resultsOf (r ∷ rs) = resultsIn r ++ resultsOf rs
 -- the open parts are those that a PIR opened and no PRR has closed since
 abbrev pub PartsMean : Type 0
 PartsMean = (slot : ℕ) (es : List Said) (head site : ℕ)
-    → isOpen (bookOf slot es .parts) head site ≡ lastOpens head site (readings (accepted slot es))
+    → isOpen (bookOf slot es .parts) head site ≡ lastOpens head site (map onParts (readings (accepted slot es)))
+
+-- #103: the open wafers are those that a WIR opened and no WRR of their head and site group has closed since
+abbrev pub WafersMean : Type 0
+WafersMean = (slot : ℕ) (es : List Said) (head group : ℕ)
+    → isOpen (bookOf slot es .wafers) head group ≡ lastOpens head group (map onWafers (readings (accepted slot es)))
 
 -- a PCR was accepted exactly if one stands among the records
 abbrev pub PcrMeans : Type 0
@@ -172,6 +167,8 @@ pcrKind Rdr = false
 pcrKind Sdr = false
 pcrKind Pir = false
 pcrKind Prr = false
+pcrKind Wir = false
+pcrKind Wrr = false
 pcrKind (Remaining k) = false
 pcrKind Custom = false
 pcrKind Unknown = false

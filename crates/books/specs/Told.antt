@@ -1,8 +1,10 @@
 -- What every call is answered, told by the calls before it and their answers alone: statements only, over any sequence
 -- of calls from a fresh house. Each is proved in proofs/Told.antt, in proofs/Whole.antt those of a whole report, or in
--- proofs/Rooms.antt those of demand 3, under its name in small letters. Document 01, "Order of checks", and "The house, its slots and its rows". What is told is told
--- by books: nothing right of an equation is of a house, a session or a row's key.
+-- proofs/Rooms.antt those of demand 3, under its name in small letters. Document 01, "Order of checks", and "The house,
+-- its slots and its rows". What is told is told by books: nothing right of an equation is of a house, a session or a
+-- row's key.
 --
+--   seenIn         what a book tells of a stream
 --   recordChecks   the checks of a record by itself, and roomTo whether the house has room for it
 --   carriedBy      what an answer with a number carries beside it, and Smallest what that is of 12
 --   needs          the rows that a session needs at a call
@@ -23,14 +25,15 @@ use Rattle.answers.specs.Numbers.{numberOf, valuesOf}
 use Rattle.numbers.specs.Laws.{Bytes}
 use Rattle.session.specs.Session.{isStart}
 use Rattle.first_record.specs.Laws.{firstChecks}
+use Rattle.kind_effects.specs.Laws.{Seen}
 use Rattle.later_records.specs.Laws.{laterChecks}
 use Rattle.rows.specs.Rows.{slotCount}
 use Rattle.house.specs.House.{rowCount, fresh}
 use Rattle.house.specs.History.{Call, Open, Deliver, Report, Close, Figured, Reply, Listed, Read, answerOf, reply}
 use Rattle.house.specs.History.{Said, after, reached, history, names, named, Sent, AllSent}
 use Rattle.tallies.specs.Results.{PartResult, among, tallyOf}
-use Rattle.books.specs.Book.{Part, Book, isOpen, part, precedes, smallestOf, openedWith, saidIn, resultsIn, heard}
-use Rattle.books.specs.Book.{bookOf, rowsIn, over, freeBy, promisedBy}
+use Rattle.books.specs.Book.{Part, Book, isOpen, onHead, part, precedes, smallestOf, openedWith, saidIn}
+use Rattle.books.specs.Book.{resultsIn, heard, bookOf, rowsIn, over, freeBy, promisedBy}
 
 abbrev pub numberTold : List Call → Call → ℕ
 numberTold calls c = numberOf (answerOf (reply (reached fresh calls) c))
@@ -54,11 +57,23 @@ OpenTold = (calls : List Call) (slot floor : ℕ) → AllSent calls
 
 -- ---- deliver
 
+-- all that a record's own checks look at; #103: a wafer is open on a head, with a site group, and how many are
+abbrev pub seenIn : Book → Seen
+seenIn b =
+    record {
+      isOpen = isOpen (b .parts);
+      opened = length (b .parts);
+      results = length (b .results);
+      pcr = b .pcr;
+      onHead = onHead (b .wafers);
+      isWafer = isOpen (b .wafers);
+      wafers = length (b .wafers);
+    }
+
 -- the first record of a stream, or a later one
 abbrev pub recordChecks : Book → List ℕ → List (Check ℕ)
 recordChecks b rec =
-    cond (isStart (b .place)) (firstChecks rec)
-    (laterChecks (b .order) (b .place) (isOpen (b .parts)) (length (b .parts)) (length (b .results)) (b .pcr) rec)
+    cond (isStart (b .place)) (firstChecks rec) (laterChecks (b .order) (b .place) (seenIn b) rec)
 
 -- a PRR whose head, site and bin its session has a row for needs none; else it gets one exactly if the session holds
 -- fewer rows than its floor, or free is greater than promised
@@ -166,7 +181,7 @@ abbrev pub FreePromised : Type 0
 FreePromised = (calls : List Call) → AllSent calls
     → promisedBy (history fresh calls) ≤ freeBy (history fresh calls)
 
--- a session below its floor is never refused for room
+-- a session below its floor is never refused for room; #103: that is answer 13 to a record, and no other
 abbrev pub NeverRefused : Type 0
 NeverRefused = (calls : List Call) (slot : ℕ) (rec : List ℕ) → AllSent calls → Bytes rec
     → let b = bookOf slot (history fresh calls) in

@@ -100,6 +100,14 @@ fn say_record(record: Record) {
                 0,
             ],
         ),
+        Record::Wir(w) => say_values(
+            b" WIR head | group |\n",
+            [w.head as u64, w.group as u64, 0, 0, 0, 0, 0, 0],
+        ),
+        Record::Wrr(w) => say_values(
+            b" WRR head | group |\n",
+            [w.head as u64, w.group as u64, 0, 0, 0, 0, 0, 0],
+        ),
         Record::Unread => say(b" unread\n"),
     }
 }

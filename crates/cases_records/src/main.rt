@@ -10,8 +10,9 @@
 //     lengths CPU TYP SUB BODY  which lengths of a body fit, if it is cut at each
 //     places RECORD             where a session goes from each place, or the number that it is refused with
 //     new                       a session that has followed nothing yet
-//     session PLACE CPU OPENED PCR RESULTS PARTS    one put together by hand (fixtures, session_of)
-//     deliver RECORD            its number, the row that it asks for, the place after it, open parts, accepted PRRs
+//     session PLACE CPU OPENED PCR RESULTS PARTS WAFERS NUMBER    one put together by hand (fixtures, session_of)
+//     deliver RECORD            its number, the row that it asks for, the place after it, open parts, accepted PRRs,
+//                               open wafers if there are any
 mod bodies_read;
 mod kinds_named;
 mod lengths;

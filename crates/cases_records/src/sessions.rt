@@ -57,8 +57,18 @@ pub(crate) fn deliver(s: Session, rec: &[u8]) -> Session {
     say_wanted(verdict);
     say(b", ");
     say_place(place);
-    say_values(b", open |, accepted |\n", values);
+    say_values(b", open |, accepted |", values);
+    say_wafers(standing.wafers);
     next
+}
+
+// Most sessions have no wafer open, and their lines say nothing of any.
+fn say_wafers(n: usize) {
+    if n != 0 {
+        say(b", wafers ");
+        say_number(n as u64);
+    }
+    say(b"\n");
 }
 
 // A number of one digit, or of two, in a cell as wide as a place's.

@@ -36,7 +36,7 @@ fn lend_pair(rows: [Row; 2], house: House, slot: u32) -> Pair
 
 // An open slot in the body of its stream, with no part open.
 fn open(results: u32) -> Slot {
-    let parts = [0u64; 32];
+    let parts = [0u64; 40];
     let session = Session {
         standing: standing(Place::Body, 0, false, results),
         parts,

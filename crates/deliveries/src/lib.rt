@@ -46,7 +46,7 @@ pub fn deliver(house: House, slot: u32, rec: &[u8]) -> Answered
 // What a record does to the session of an open slot: it is judged here, once, and no house is touched.
 fn judge_slot(s: Slot, rec: &[u8]) -> Verdict
     requires { ⌜ sound (s .session) ≡ true ⌝ }
-    ensures { λ r. ⌜ (r ≡ verdictOn (s .session) (now (rec .entry))) × Settles (s .session .standing .opened) r ⌝ }
+    ensures { λ r. ⌜ (r ≡ verdictOn (s .session) (now (rec .entry))) × Settles (s .session .standing) r ⌝ }
 {
     let session = s.session;
     let parts = session.parts;

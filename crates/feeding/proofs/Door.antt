@@ -127,7 +127,7 @@ module _ (h : House) (owed slot : ℕ) (s : Slot) (carry : List ℕ) (f : Feedab
   lent-laid : (c : Core) → Laid h slot c → LentAt (roomOf h slot) c
   lent-laid c l =
       let own = laid-slot h slot c (f .slots) (f .inside) in
-      let cells : length (c .parts) ≡ 32
+      let cells : length (c .parts) ≡ 40
       = ap (λ (x : Slot). length (x .session .parts)) (sym own) ∙ l .shape .parts slot (f .inside) in
       lent-to (laid h slot c) slot (sym own) (sym (l .sees)) (l .fine) (l .shape .keys) (l .shape .counts)
       (l .shape .slots) (f .inside) open-there cells

@@ -12,7 +12,7 @@ use Prim.Native.Nat.{ℕ, _<_}
 use lib.ListN.{length, getD}
 use Rattle.prelude.specs.All.{all}
 use Rattle.prelude.specs.Checks.{tests}
-use Rattle.session.specs.Session.{mostOpen}
+use Rattle.session.specs.Session.{cellCount}
 use Rattle.rows.specs.Rows.{slotCount}
 use Rattle.house.specs.declared.House.{House}
 use Rattle.house.specs.declared.Slot.{Slot}
@@ -22,7 +22,7 @@ use Rattle.house.specs.Feeding.{feedChecks}
 
 -- every slot has its cells for open parts, as its type says
 abbrev pub Cells : List Slot → Type 0
-Cells slots = (i : ℕ) → i < slotCount → length (getD slots i noSlot .session .parts) ≡ mostOpen
+Cells slots = (i : ℕ) → i < slotCount → length (getD slots i noSlot .session .parts) ≡ cellCount
 
 -- what is known of a house and of an open slot of it when a chunk is fed to it
 pub record Feedable (h : House) (owed slot : ℕ) (s : Slot) (carry : List ℕ) : Type 0 where

@@ -29,9 +29,9 @@ fn fed(answer: Answer, taken: usize, house: House) -> Fed
     }
 }
 
-// A slot has 32 cells for its open parts: its type says so, and no proof sees a type.
+// A slot has 40 cells for its open parts and wafers: its type says so, and no proof sees a type.
 fn cells_of(s: Slot) -> bool
-    ensures { λ r. ⌜ length (s .session .parts) ≡ 32 ⌝ }
+    ensures { λ r. ⌜ length (s .session .parts) ≡ 40 ⌝ }
 {
     s.taken
 }

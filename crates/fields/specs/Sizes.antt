@@ -2,7 +2,7 @@
 --
 --   mostSize, most   the most bytes of a field, and of fields
 --   Sized            a body, the fewest bytes it may have and the most
---   bodySizes        the table, a body a line: FAR, and those of the document
+--   bodySizes        the table, a body a line: FAR, those of the document and of #103
 --   SizesAre         that no body that fits has fewer or more, and that there are bodies of both lengths
 --   lengths          where bodies may stop whose fields' sizes their types tell
 -- Assumes nothing.
@@ -18,7 +18,7 @@ use Rattle.numbers.specs.Laws.{Bytes}
 use Rattle.fields.specs.declared.FieldType.{FieldType}
 use Rattle.fields.specs.declared.FieldType.the-variants.{U, I, C1, B1, Cn, Bn}
 use Rattle.fields.specs.Fields.{leastSize}
-use Rattle.fields.specs.Tables.{Body, fields, fitsBody, least, far, mir, mrr, pcr, bin, pir, prr}
+use Rattle.fields.specs.Tables.{Body, fields, fitsBody, least, far, mir, mrr, pcr, bin, pir, prr, wir, wrr}
 use Rattle.fields.specs.Laws.{fixed}
 
 -- a count byte says 255 at the most
@@ -53,6 +53,8 @@ bodySizes =
     (bin from 8 to 265) ∷
     (pir from 2 to 2) ∷
     (prr from 7 to 785) ∷
+    (wir from 6 to 262) ∷
+    (wrr from 10 to 1_562) ∷
     []
 
 -- what stands past the table's end

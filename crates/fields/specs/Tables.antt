@@ -1,10 +1,10 @@
 -- The fields of each body that is read, required to the bar. Document 01, "Record frame and kinds", its table of
--- bodies; MIR in the order of source document 004.
+-- bodies; MIR in the order of source document 004, WIR and WRR (#103) in that of document 003.
 --
 --   Body       a body's fields before the bar and behind it
 --   fitsBody   whether bytes are such a body
 --   least      the fewest bytes of fields
---   far .. prr
+--   far .. wrr
 --   offsetOf, byteOf, valueOf   where a field begins, and what stands there
 -- Assumes nothing.
 use Prim.Native.Nat.{ℕ, _+_}
@@ -61,6 +61,15 @@ pir = (u1 ∷ u1 ∷ []) bar []
 -- head, site, PART_FLG, tests, hard bin, then soft bin, X, Y, time, id, text, fix
 abbrev pub prr : Body
 prr = (u1 ∷ u1 ∷ b1 ∷ u2 ∷ u2 ∷ []) bar (u2 ∷ i2 ∷ i2 ∷ u4 ∷ cn ∷ cn ∷ bn ∷ [])
+
+-- #103: head, site group, start time, then wafer id
+abbrev pub wir : Body
+wir = (u1 ∷ u1 ∷ u4 ∷ []) bar (cn ∷ [])
+
+-- #103: head, site group, finish time, parts, then retest, abort, good, functional; wafer, fab wafer, frame and mask
+-- id; two descriptions
+abbrev pub wrr : Body
+wrr = (u1 ∷ u1 ∷ u4 ∷ u4 ∷ []) bar (u4 ∷ u4 ∷ u4 ∷ u4 ∷ replicate 6 cn)
 
 -- ---- a field by its number, from 0
 

@@ -94,6 +94,12 @@ pub const PIR: [u8; 2] = [U1, U1];
 // head, site, PART_FLG, tests, hard bin, bar, soft bin, X, Y, time, id, text, fix
 pub const PRR: [u8; 12] = [U1, U1, B1, U2, U2, U2, I2, I2, U4, CN, CN, BN];
 
+// head, site group, start time, bar, wafer id
+pub const WIR: [u8; 4] = [U1, U1, U4, CN];
+
+// head, site group, finish time, parts, bar, retest, abort, good, functional, four ids, two descriptions
+pub const WRR: [u8; 14] = [U1, U1, U4, U4, U4, U4, U4, U4, CN, CN, CN, CN, CN, CN];
+
 // The type that a number of a table stands for.
 fn type_of(code: u8) -> FieldType
     ensures { λ r. ⌜ r ≡ typeOf code ⌝ }

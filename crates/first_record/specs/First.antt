@@ -26,7 +26,14 @@ use Rattle.session.specs.Verdicts.{stands}
 
 abbrev pub inOrder : Standing → Order → Standing
 inOrder st order =
-    record { place = Header; order = order; opened = st .opened; pcr = st .pcr; results = st .results }
+    record {
+      place = Header;
+      order = order;
+      opened = st .opened;
+      pcr = st .pcr;
+      results = st .results;
+      wafers = st .wafers;
+    }
 
 -- .. then a length field that isn't 2 in the CPU's order is 3; then 5
 unfoldable pub judgeIn : Standing → List ℕ → Order → Verdict

@@ -20,6 +20,7 @@ fn in_order(st: Standing, order: Order) -> Standing
         opened: st.opened,
         pcr: st.pcr,
         results: st.results,
+        wafers: st.wafers,
     }
 }
 

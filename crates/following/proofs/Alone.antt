@@ -13,7 +13,7 @@ use Rattle.answers.specs.Numbers.{numberOf}
 use Rattle.numbers.specs.Laws.{Bytes}
 use Rattle.rows.specs.Rows.{slotCount, heldBy}
 use Rattle.session.specs.Session as session
-use Rattle.session.specs.Session.{mostOpen}
+use Rattle.session.specs.Session.{cellCount}
 use Rattle.house.specs.declared.House.{House}
 use Rattle.house.specs.declared.Answered.{Answered}
 use Rattle.house.specs.declared.Room.{Room}
@@ -38,10 +38,10 @@ use Rattle.following.specs.Following.{Reached, reached, standing, heard,
 use Rattle.following.specs.Lent.{aloneHouse, aloneRoom, Begun}
 
 pub alone-shaped : (c : Core) → length (c .keys) ≡ rowCount → length (c .counts) ≡ rowCount
-    → length (c .parts) ≡ mostOpen → Shaped (aloneHouse c)
+    → length (c .parts) ≡ cellCount → Shaped (aloneHouse c)
 alone-shaped c long paired cells = record { keys = long; counts = paired; slots = refl; parts = at }
   where
-    at : (i : ℕ) → i < slotCount → length (slotAt (aloneHouse c) i .session .parts) ≡ mostOpen
+    at : (i : ℕ) → i < slotCount → length (slotAt (aloneHouse c) i .session .parts) ≡ cellCount
     at zero inside = cells
     at (suc i) inside = rw (getD-replicate 15 i closedSlot noSlot (omega arith))
 

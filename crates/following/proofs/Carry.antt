@@ -9,7 +9,7 @@ use lib.ListN.{length, take, drop, length-drop}
 use lib.Seq.{take-add, length-take-le}
 use Rattle.numbers.specs.Laws.{Bytes}
 use Rattle.session.specs.declared.Standing.{Standing}
-use Rattle.session.specs.Session.{mostOpen}
+use Rattle.session.specs.Session.{cellCount}
 use Rattle.house.specs.declared.Room.{Room}
 use Rattle.house.specs.House.{rowCount, sound}
 use Rattle.house.specs.Deliver.{Core, core}
@@ -111,7 +111,7 @@ landed (Stopped why) p left (Stops q r because rest) l =
 module _ (s : Stream) (buf : List ℕ) (got : ℕ) (right : Right s buf) (goes : s .fate ≡ Going)
     (there : s .held + got ≤ length buf) (few : s .accepted + (s .held + got) ≤ pastCount)
     (long : length (s .keys) ≡ rowCount) (paired : length (s .counts) ≡ rowCount)
-    (cells : length (s .parts) ≡ mostOpen) where
+    (cells : length (s .parts) ≡ cellCount) where
   abbrev end : ℕ
   end = s .held + got
 

@@ -18,7 +18,7 @@ pub struct Stream {
     pub used: usize,
     pub guesses: [u16; 4096],
     pub standing: Standing,
-    pub parts: [u64; 32],
+    pub parts: [u64; 40],
     pub accepted: u64,
     pub fate: Fate,
     pub held: usize,

@@ -317,7 +317,7 @@ open-session h slot e slots-long inside t = slot-told h slot e (omega arith) t .
 -- .. and the slot lends it and all rows
 pub lent-core : (h : House) (slot : ℕ) → sound h ≡ true → length (h .keys) ≡ rowCount → length (h .counts) ≡ rowCount
     → length (h .slots) ≡ slotCount → slot < slotCount → slotAt h slot .taken ≡ true
-    → length (slotAt h slot .session .parts) ≡ 32
+    → length (slotAt h slot .session .parts) ≡ 40
     → LentCore (roomOf h slot) (h .keys) (h .counts) (h .used) (slotAt h slot .session .standing)
     (slotAt h slot .session .parts)
 unfolding unfilled
@@ -342,7 +342,7 @@ lent-core h slot e long paired slots-long inside t cells =
 -- the same of a slot and a room that were read off the house
 module _ (h : House) (slot : ℕ) {s : Slot} {room : Room} (is : s ≡ slotAt h slot) (seen : room ≡ roomOf h slot) where
   pub lent-to : sound h ≡ true → length (h .keys) ≡ rowCount → length (h .counts) ≡ rowCount
-      → length (h .slots) ≡ slotCount → slot < slotCount → s .taken ≡ true → length (s .session .parts) ≡ 32
+      → length (h .slots) ≡ slotCount → slot < slotCount → s .taken ≡ true → length (s .session .parts) ≡ 40
       → LentCore room (h .keys) (h .counts) (h .used) (s .session .standing) (s .session .parts)
   lent-to e long paired slots-long inside t cells =
       rw (seen, is)

@@ -147,14 +147,14 @@ module _ (room : Room) (c : Core) {v : Verdict} where
   settled-wanted e = rw e
 
 module _ (room : Room) (c : Core) (rec : List ℕ) where
-  pub delivered-settled : {v : Verdict} → v ≡ judge (c .standing) (take (c .standing .opened) (c .parts)) rec
+  pub delivered-settled : {v : Verdict} → v ≡ judge (c .standing) (c .parts) rec
       → settled room c v ≡ delivered room c rec
   unfolding delivered
   delivered-settled is = rw is
 
   -- a record that moves the standing alone
   pub delivered-stands : (next : Standing)
-      → judge (c .standing) (take (c .standing .opened) (c .parts)) rec ≡ Taken (stands next)
+      → judge (c .standing) (c .parts) rec ≡ Taken (stands next)
       → outcome answer.Done (c .keys) (c .counts) (c .used) next (c .parts) ≡ delivered room c rec
   delivered-stands next e =
       settled-taken room c e (record { standing = next; parts = c .parts })

@@ -27,7 +27,7 @@ use Rattle.session.specs.declared.Change.{Change}
 use Rattle.session.specs.declared.Verdict.{Verdict}
 use Rattle.session.specs.declared.Verdict.the-variants.{Refused, Taken, Wanted}
 use Rattle.session.specs.Session as session
-use Rattle.session.specs.Session.{mostOpen, mostResults, pastParts}
+use Rattle.session.specs.Session.{cellCount, mostResults, pastParts}
 use Rattle.session.proofs.Laws.{begun-sound}
 use Rattle.settling.specs.Settling.{changed, after, countedParts}
 use Rattle.judging.specs.Judge.{verdictOn}
@@ -530,14 +530,14 @@ below-floor h slot rec change key e inside t asks low =
 pub fresh-shaped : Shaped fresh
 fresh-shaped = record { keys = refl; counts = refl; slots = refl; parts = closed-at slotCount }
   where
-    closed-at : (n i : ℕ) → i < n → length (getD (replicate n closedSlot) i noSlot .session .parts) ≡ mostOpen
+    closed-at : (n i : ℕ) → i < n → length (getD (replicate n closedSlot) i noSlot .session .parts) ≡ cellCount
     closed-at zero i h = absurd (omega arith)
     closed-at (suc n) zero h = refl
     closed-at (suc n) (suc i) h = closed-at n i (omega arith)
 
 -- other rows, as many, and another slot with as many parts
 pub shaped-by : (h : House) (ks cs : List ℕ) (n slot : ℕ) (s : Slot) → Shaped h → length ks ≡ rowCount
-    → length cs ≡ rowCount → length (s .session .parts) ≡ mostOpen → slot < slotCount
+    → length cs ≡ rowCount → length (s .session .parts) ≡ cellCount → slot < slotCount
     → Shaped (record { keys = ks; counts = cs; used = n; slots = set (h .slots) slot s })
 shaped-by h ks cs n slot s shape long paired cells there =
     record {
@@ -571,7 +571,7 @@ close-shaped h slot shape =
 module _ (h : House) (slot : ℕ) (shape : Shaped h) (e : sound h ≡ true) (inside : slot < slotCount)
     (t : slotAt h slot .taken ≡ true) where
   -- a session with as many cells, the rows as they were
-  session-shaped : (ses : Session) → length (ses .parts) ≡ mostOpen
+  session-shaped : (ses : Session) → length (ses .parts) ≡ cellCount
       → Shaped (withSlot h slot (withSession (slotAt h slot) ses))
   session-shaped ses cells =
       shaped-by h (h .keys) (h .counts) (h .used) slot (withSession (slotAt h slot) ses) shape (shape .keys)
@@ -580,7 +580,7 @@ module _ (h : House) (slot : ℕ) (shape : Shaped h) (e : sound h ≡ true) (ins
   abbrev current : Session
   current = slotAt h slot .session
 
-  wanted-shaped : (change : Change) (key : ℕ) → length (changed current change .parts) ≡ mostOpen
+  wanted-shaped : (change : Change) (key : ℕ) → length (changed current change .parts) ≡ cellCount
       → KeyRight (Wanted change key) → (b : Bool) → granted (roomOf h slot) (keysOf h) (rowKey slot key) ≡ b
       → Shaped (withOutcome h slot (resultedIf (roomOf h slot) (coreOf h slot) change key) .house)
   unfolding resultedIf rowTaken
@@ -595,7 +595,7 @@ module _ (h : House) (slot : ℕ) (shape : Shaped h) (e : sound h ≡ true) (ins
       (counted-kept (h .keys) (h .counts) (h .used) (rowKey slot key) kept room .paired ∙ long) cells inside)
   wanted-shaped change key cells right false got = rw got (session-shaped current (shape .parts slot inside))
 
-  settled-shaped : (v : Verdict) → length (after current v .parts) ≡ mostOpen → KeyRight v
+  settled-shaped : (v : Verdict) → length (after current v .parts) ≡ cellCount → KeyRight v
       → Shaped (withOutcome h slot (settledTo h slot v) .house)
   unfolding settled after
   settled-shaped (Refused a) cells right = session-shaped current cells

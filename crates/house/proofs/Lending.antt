@@ -23,7 +23,7 @@ use Rattle.settling.specs.Settling.{changed, after}
 use Rattle.judging.specs.Judge.{verdictOn}
 use Rattle.judging.specs.Laws.{KeyRight}
 use Rattle.session.specs.Session as session
-use Rattle.session.specs.Session.{mostOpen}
+use Rattle.session.specs.Session.{cellCount}
 use Rattle.session.proofs.Laws.{sound-lent}
 use Rattle.judging.proofs.Laws.{judged-sound, judged-key, judged-long}
 use Rattle.house.specs.declared.Room.{Room}
@@ -157,7 +157,7 @@ module _ (room : Room) (c : Core) (most : ℕ) (some : 1 ≤ most) (few : most <
   used-counts = take (c .used) (c .counts)
 
   -- the rows as they were, with any sound session
-  rows-same : (s : Session) → session.sound s ≡ true → length (s .parts) ≡ mostOpen
+  rows-same : (s : Session) → session.sound s ≡ true → length (s .parts) ≡ cellCount
       → Lending room (core (c .keys) (c .counts) (c .used) (s .standing) (s .parts)) (most + 1)
   rows-same s fine long =
       record {
@@ -168,7 +168,7 @@ module _ (room : Room) (c : Core) (most : ℕ) (some : 1 ≤ most) (few : most <
       }
 
   wanted-kept : (change : Change) (key : ℕ) → session.sound (changed (sessionOf c) change) ≡ true
-      → length (changed (sessionOf c) change .parts) ≡ mostOpen → KeyRight (Wanted change key)
+      → length (changed (sessionOf c) change .parts) ≡ cellCount → KeyRight (Wanted change key)
       → (b : Bool) → granted room (take (c .used) (c .keys)) (rowKey (room .slot) key) ≡ b
       → Lending room (resultedIf room c change key .core) (most + 1)
   unfolding resultedIf rowTaken
@@ -187,7 +187,7 @@ module _ (room : Room) (c : Core) (most : ℕ) (some : 1 ≤ most) (few : most <
   wanted-kept change key fine long right false got = rw got (rows-same (sessionOf c) (l .session) (l .cells))
 
   settled-kept : (v : Verdict) → session.sound (after (sessionOf c) v) ≡ true
-      → length (after (sessionOf c) v .parts) ≡ mostOpen → KeyRight v
+      → length (after (sessionOf c) v .parts) ≡ cellCount → KeyRight v
       → Lending room (settled room c v .core) (most + 1)
   unfolding settled after
   settled-kept (Refused a) fine long right = rows-same (sessionOf c) fine long

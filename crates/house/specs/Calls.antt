@@ -130,7 +130,7 @@ pub record Settleable (h : House) (owed slot : ℕ) (s : Slot) (v : Verdict) : T
   pub taken : s .taken ≡ true
   pub slots : length (h .slots) ≡ slotCount
   pub owes : owed ≡ promised h
-  pub fits : Settles (s .session .standing .opened) v
+  pub fits : Settles (s .session .standing) v
 
 -- Order of checks, Deliver: 15, 1, 2, then the record
 unfoldable pub deliver : House → ℕ → List ℕ → Answered

@@ -101,7 +101,7 @@ settled room c (Taken change) = told Done (c .keys) (c .counts) (c .used) (chang
 settled room c (Wanted change key) = resultedIf room c change key
 
 unfoldable pub delivered : Room → Core → List ℕ → Outcome
-delivered room c rec = settled room c (judge (c .standing) (take (c .standing .opened) (c .parts)) rec)
+delivered room c rec = settled room c (judge (c .standing) (c .parts) rec)
 
 -- ---- where a row is looked for first
 
@@ -138,7 +138,7 @@ pub record LentRows (room : Room) (keys counts : List ℕ) (used : ℕ) : Type 0
 pub record LentCore (room : Room) (keys counts : List ℕ) (used : ℕ) (st : Standing) (parts : List ℕ) : Type 0 where
   pub rows : LentRows room keys counts used
   pub kept : LentParts st parts
-  pub cells : length parts ≡ 32
+  pub cells : length parts ≡ 40
 
 -- the keys of a sound house, a slot of it and a key with its rank
 pub record Grantable (room : Room) (keys : List ℕ) (used at key : ℕ) : Type 0 where

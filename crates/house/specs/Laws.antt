@@ -21,7 +21,7 @@ use Rattle.rows.specs.Rows.{slotCount, heldBy}
 use Rattle.session.specs.declared.Change.{Change}
 use Rattle.session.specs.declared.Verdict.the-variants.{Wanted}
 use Rattle.session.specs.Session as session
-use Rattle.session.specs.Session.{mostOpen}
+use Rattle.session.specs.Session.{cellCount}
 use Rattle.judging.specs.Judge.{verdictOn}
 use Rattle.cutting.specs.Needed.{needed}
 use Rattle.cutting.specs.Walk.{Waits, joined, accepted}
@@ -38,7 +38,7 @@ pub record Shaped (h : House) : Type 0 where
   pub keys : length (h .keys) ≡ rowCount
   pub counts : length (h .counts) ≡ rowCount
   pub slots : length (h .slots) ≡ slotCount
-  pub parts : (i : ℕ) → i < slotCount → length (slotAt h i .session .parts) ≡ mostOpen
+  pub parts : (i : ℕ) → i < slotCount → length (slotAt h i .session .parts) ≡ cellCount
 
 -- a fresh house is sound
 abbrev pub FreshSound : Type 0
@@ -158,7 +158,7 @@ EndNumber = (h : House) (slot : ℕ)
 pub record Lending (room : Room) (c : Core) (most : ℕ) : Type 0 where
   pub rows : LentRows room (c .keys) (c .counts) (c .used)
   pub session : session.sound (sessionOf c) ≡ true
-  pub cells : length (c .parts) ≡ mostOpen
+  pub cells : length (c .parts) ≡ cellCount
   pub below : allBelow most (take (c .used) (c .counts)) ≡ true
 
 -- it is all that a delivery asks for

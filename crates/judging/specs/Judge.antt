@@ -11,18 +11,18 @@ use Rattle.session.specs.declared.Session.{Session}
 use Rattle.session.specs.declared.Standing.{Standing}
 use Rattle.session.specs.declared.Verdict.{Verdict}
 use Rattle.session.specs.declared.Verdict.the-variants.{Refused}
-use Rattle.session.specs.Session.{isStart, partsOf, sound}
+use Rattle.session.specs.Session.{isStart, sound}
 use Rattle.settling.specs.Settling.{after}
 use Rattle.first_record.specs.First.{judgeFirst}
 use Rattle.later_records.specs.Later.{judgeLater}
 use Rattle.judging.specs.declared.Judged.{Judged}
 
 unfoldable pub judge : Standing → List ℕ → List ℕ → Verdict
-judge st parts rec = cond (isStart (st .place)) (judgeFirst st rec) (judgeLater st parts rec)
+judge st cells rec = cond (isStart (st .place)) (judgeFirst st rec) (judgeLater st cells rec)
 
--- what a session's own standing and parts make of a record
+-- what a session's own standing and cells make of a record
 abbrev pub verdictOn : Session → List ℕ → Verdict
-verdictOn s rec = judge (s .standing) (partsOf s) rec
+verdictOn s rec = judge (s .standing) (s .parts) rec
 
 -- a session that is not sound is refused, 15, before its record is looked at
 unfoldable pub judged : Session → List ℕ → Judged

@@ -9,16 +9,15 @@ use mathlib.Core.Path.{_≡_}
 use mathlib.Core.Bool.{true, false}
 use mathlib.Core.List.{List}
 use Prim.Native.Nat.{ℕ, _+_, _/_, _%_, _≤_, _<_}
-use lib.ListN.{length, take}
+use lib.ListN.{length}
 use Rattle.numbers.specs.Laws.{Bytes}
 use Rattle.answers.specs.declared.Answer.{Answer}
 use Rattle.values.specs.Values.{mostBin}
-use Rattle.numbers.specs.declared.Order.{Order}
 use Rattle.session.specs.declared.Session.{Session}
 use Rattle.session.specs.declared.Standing.{Standing}
 use Rattle.session.specs.declared.Verdict.{Verdict}
 use Rattle.session.specs.declared.Verdict.the-variants.{Refused, Taken, Wanted}
-use Rattle.session.specs.Session.{mostOpen, mostResults, pastParts, partsOf, isStart, Follows, sound, LentParts}
+use Rattle.session.specs.Session.{cellCount, mostResults, pastParts, partsOf, isStart, Follows, sound, LentParts}
 use Rattle.session.specs.Verdicts.{ByItself}
 use Rattle.settling.specs.Settling.{changed, after, countedParts, Settles}
 use Rattle.first_record.specs.First.{judgeFirst, orderIn}
@@ -30,23 +29,22 @@ use Rattle.judging.specs.Judge.{judge, verdictOn}
 
 -- its number at the start is FirstNumber's of first_record, and later on LaterNumber's of later_records
 abbrev pub JudgedFirst : Type 0
-JudgedFirst = (st : Standing) (parts rec : List ℕ) → isStart (st .place) ≡ true
-    → judge st parts rec ≡ judgeFirst st rec
+JudgedFirst = (st : Standing) (cells rec : List ℕ) → isStart (st .place) ≡ true
+    → judge st cells rec ≡ judgeFirst st rec
 
 abbrev pub JudgedLater : Type 0
-JudgedLater = (st : Standing) (parts rec : List ℕ) → isStart (st .place) ≡ false
-    → judge st parts rec ≡ judgeLater st parts rec
+JudgedLater = (st : Standing) (cells rec : List ℕ) → isStart (st .place) ≡ false
+    → judge st cells rec ≡ judgeLater st cells rec
 
 -- ---- the session after it
 
 -- what a verdict changes may be settled
 abbrev pub JudgedSettles : Type 0
-JudgedSettles = (st : Standing) (cells rec : List ℕ) → LentParts st cells
-    → Settles (st .opened) (judge st (take (st .opened) cells) rec)
+JudgedSettles = (st : Standing) (cells rec : List ℕ) → LentParts st cells → Settles st (judge st cells rec)
 
 -- a sound session stays sound, whatever bytes are delivered to it
 abbrev pub JudgedSound : Type 0
-JudgedSound = (s : Session) (rec : List ℕ) → Bytes rec → length (s .parts) ≡ mostOpen → sound s ≡ true
+JudgedSound = (s : Session) (rec : List ℕ) → Bytes rec → length (s .parts) ≡ cellCount → sound s ≡ true
     → sound (after s (verdictOn s rec)) ≡ true
 
 -- its accepted PRRs are one more just where a part result was accepted
@@ -59,10 +57,10 @@ abbrev pub JudgedFew : Type 0
 JudgedFew = (s : Session) (rec : List ℕ) → s .standing .results ≤ mostResults
     → after s (verdictOn s rec) .standing .results ≤ mostResults
 
--- the cells of a session's parts stay as many
+-- the cells of a session stay as many
 abbrev pub JudgedLong : Type 0
-JudgedLong = (s : Session) (rec : List ℕ) → length (s .parts) ≡ mostOpen → sound s ≡ true
-    → length (after s (verdictOn s rec) .parts) ≡ mostOpen
+JudgedLong = (s : Session) (rec : List ℕ) → length (s .parts) ≡ cellCount → sound s ≡ true
+    → length (after s (verdictOn s rec) .parts) ≡ cellCount
 
 -- ---- what a verdict tells of a record
 

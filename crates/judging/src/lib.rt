@@ -10,7 +10,6 @@ use session::is_sound;
 use session::is_start;
 use settling::settle_verdict;
 ghost use mathlib.Core.Path.{_≡_};
-ghost use lib.ListN.{take};
 ghost use Rattle.session.specs.Session.{LentParts};
 ghost use Rattle.judging.specs.Judge.{judge, judged};
 
@@ -20,11 +19,11 @@ pub struct Judged {
     pub session: Session,
 }
 
-// What a record does to a sound session whose parts are lent: nothing is copied, and nothing is tested that the
+// What a record does to a sound session whose cells are lent: nothing is copied, and nothing is tested that the
 // caller knows.
 pub fn judge_lent(st: Standing, parts: &[u64], rec: &[u8]) -> Verdict
     requires { ⌜ LentParts st (now parts) ⌝ }
-    ensures { λ r. ⌜ r ≡ judge st (take (st .opened) (now (parts .entry))) (now (rec .entry)) ⌝ }
+    ensures { λ r. ⌜ r ≡ judge st (now (parts .entry)) (now (rec .entry)) ⌝ }
 {
     let place = st.place;
     if is_start(place) {
@@ -55,9 +54,9 @@ pub fn judge_record(session: Session, rec: &[u8]) -> Judged
 }
 
 // The same as judge_lent, of the cells that a session holds.
-fn judge_cells(st: Standing, parts: &[u64; 32], rec: &[u8]) -> Verdict
+fn judge_cells(st: Standing, parts: &[u64; 40], rec: &[u8]) -> Verdict
     requires { ⌜ LentParts st (now parts) ⌝ }
-    ensures { λ r. ⌜ r ≡ judge st (take (st .opened) (now (parts .entry))) (now (rec .entry)) ⌝ }
+    ensures { λ r. ⌜ r ≡ judge st (now (parts .entry)) (now (rec .entry)) ⌝ }
 {
     judge_lent(st, parts, rec)
 }

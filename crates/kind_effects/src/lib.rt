@@ -1,5 +1,5 @@
 // What each kind of record does to a session, once it is in its place and its body fits: document 01, "Order of
-// checks", Later records, 9 to 12, 14 and 20.
+// checks", Later records, 9 to 12, 14 and 20; #103, 22, 23 and 33.
 use answers::Answer;
 use bodies::Record;
 use rising::holds;
@@ -8,16 +8,23 @@ use session::Change;
 use session::Standing;
 use session::Verdict;
 ghost use mathlib.Core.Path.{_≡_};
+ghost use mathlib.Core.Bool.{true};
+ghost use mathlib.Core.List.{map};
 ghost use Prim.Native.Nat.{_≤_, _<_, _+_, _*_};
 ghost use lib.ListN.{length, take};
-ghost use Rattle.session.specs.Session.{LentParts, partOf, keyOf};
+ghost use Rattle.rising.specs.Rising.{rising, rank, held};
+ghost use Rattle.session.specs.Session.{LentParts, partOf, keyOf, waferHead};
 ghost use Rattle.session.specs.Verdicts.{stillOpen};
-ghost use Rattle.kind_effects.specs.Effects.{withPcr, judgePir, judgePrr, judgeMrr, judgeSaid};
+ghost use Rattle.kind_effects.specs.Effects.{withPcr, judgePir, judgePrr, judgeMrr, judgeWir, judgeWrr};
+ghost use Rattle.kind_effects.specs.Effects.{judgeSaid};
 
 const MOST_OPEN: usize = 32;
 
 const MOST_RESULTS: u32 = 4294967295;
 
+const MOST_WAFERS: usize = 8;
+
+// A part with its site, and a wafer with its site group.
 fn part_of(head: u8, site: u8) -> u64
     ensures { λ r. ⌜ r ≡ partOf head site ⌝ }
 {
@@ -82,11 +89,60 @@ fn judge_mrr(st: Standing, parts: &[u64]) -> Verdict
     if st.opened != 0 {
         return Verdict::Refused(still_open(parts));
     }
+    if st.wafers != 0 {
+        return Verdict::Refused(Answer::WaferOpen);
+    }
     if st.pcr {
         Verdict::Taken(Change::Stands(st))
     } else {
         Verdict::Refused(Answer::NoPcr)
     }
+}
+
+// Whether an open wafer is on a head, whose rank among their heads is `at`.
+fn on_head(wafers: &[u64], used: usize, at: usize, head: u8) -> bool
+    requires { ⌜ (used ≤ length (now wafers)) × (rising (map waferHead (take used (now wafers))) ≡ true)
+        × (at ≡ rank head (map waferHead (take used (now wafers)))) ⌝ }
+    ensures { λ r. ⌜ r ≡ held head (map waferHead (take used (now (wafers .entry)))) ⌝ }
+{
+    if used <= at {
+        return false;
+    }
+    wafers[at] / 256 == (head as u64)
+}
+
+// The wafers are lent by themselves. As many of them are below the first of a head as heads are below it.
+fn judge_wir(st: Standing, wafers: &[u64], head: u8, group: u8) -> Verdict
+    requires { ⌜ (st .wafers ≤ length (now wafers))
+        × (rising (map waferHead (take (st .wafers) (now wafers))) ≡ true) ⌝ }
+    ensures { λ r. ⌜ r ≡ judgeWir st (take (st .wafers) (now (wafers .entry))) head group ⌝ }
+{
+    let used = st.wafers;
+    let rank = rank_of(wafers, used, part_of(head, 0));
+    if on_head(wafers, used, rank, head) {
+        return Verdict::Refused(Answer::WrongWafer);
+    }
+    if MOST_WAFERS <= used {
+        return Verdict::Refused(Answer::TooManyWafers);
+    }
+    let mut next = st;
+    next.wafers = used + 1;
+    Verdict::Taken(Change::WaferOpens(next, rank, part_of(head, group)))
+}
+
+fn judge_wrr(st: Standing, wafers: &[u64], wafer: u64) -> Verdict
+    requires { ⌜ (st .wafers ≤ length (now wafers))
+        × (rising (map waferHead (take (st .wafers) (now wafers))) ≡ true) ⌝ }
+    ensures { λ r. ⌜ r ≡ judgeWrr st (take (st .wafers) (now (wafers .entry))) wafer ⌝ }
+{
+    let used = st.wafers;
+    let rank = rank_of(wafers, used, wafer);
+    if holds(wafers, used, rank, wafer) {
+        let mut next = st;
+        next.wafers = used - 1;
+        return Verdict::Taken(Change::WaferCloses(next, rank));
+    }
+    Verdict::Refused(Answer::WrongWafer)
 }
 
 fn with_pcr(st: Standing) -> Standing
@@ -97,10 +153,10 @@ fn with_pcr(st: Standing) -> Standing
     next
 }
 
-// What a record that is in its place and fits its kind does, to a session whose parts are lent.
+// What a record that is in its place and fits its kind does, to a session whose cells are lent.
 pub fn judge_said(st: Standing, parts: &[u64], said: Record) -> Verdict
     requires { ⌜ LentParts st (now parts) ⌝ }
-    ensures { λ r. ⌜ r ≡ judgeSaid st (take (st .opened) (now (parts .entry))) said ⌝ }
+    ensures { λ r. ⌜ r ≡ judgeSaid st (now (parts .entry)) said ⌝ }
 {
     let same = Change::Stands(st);
     match said {
@@ -112,6 +168,8 @@ pub fn judge_said(st: Standing, parts: &[u64], said: Record) -> Verdict
             key_of(p.head, p.site, p.bin),
         ),
         Record::Mrr => judge_mrr(st, parts),
+        Record::Wir(w) => judge_wir(st, &parts[MOST_OPEN..], w.head, w.group),
+        Record::Wrr(w) => judge_wrr(st, &parts[MOST_OPEN..], part_of(w.head, w.group)),
         Record::Pcr(_) => Verdict::Taken(Change::Stands(with_pcr(st))),
         Record::Far(_) => Verdict::Taken(same),
         Record::Mir => Verdict::Taken(same),

@@ -13,8 +13,8 @@ use mathlib.Core.List.{List, [], _∷_}
 use lib.Dec.{eqb, ltb}
 use Rattle.kinds.specs.declared.Kind.{Kind}
 use Rattle.kinds.specs.declared.Kind.the-variants.{Far, Atr, Mir, Mrr, Pcr, Hbr, Sbr}
-use Rattle.kinds.specs.declared.Kind.the-variants.{Rdr, Sdr, Pir, Prr, Remaining, Custom, Unknown}
-use Rattle.kinds.specs.declared.Remaining.the-variants.{Pmr, Pgr, Plr, Wir, Wrr, Wcr, Tsr}
+use Rattle.kinds.specs.declared.Kind.the-variants.{Rdr, Sdr, Wir, Wrr, Pir, Prr, Remaining, Custom, Unknown}
+use Rattle.kinds.specs.declared.Remaining.the-variants.{Pmr, Pgr, Plr, Wcr, Tsr}
 use Rattle.kinds.specs.declared.Remaining.the-variants.{Ptr, Mpr, Ftr, Bps, Eps, Gdr, Dtr}
 use Rattle.kinds.specs.declared.Pair.{Pair}
 
@@ -33,8 +33,8 @@ pairs =
     (1, 63, Remaining Plr) ∷
     (1, 70, Rdr) ∷
     (1, 80, Sdr) ∷
-    (2, 10, Remaining Wir) ∷
-    (2, 20, Remaining Wrr) ∷
+    (2, 10, Wir) ∷
+    (2, 20, Wrr) ∷
     (2, 30, Remaining Wcr) ∷
     (5, 10, Pir) ∷
     (5, 20, Prr) ∷
@@ -84,6 +84,8 @@ known Hbr = true
 known Sbr = true
 known Rdr = true
 known Sdr = true
+known Wir = true
+known Wrr = true
 known Pir = true
 known Prr = true
 known (Remaining k) = true

@@ -8,8 +8,6 @@ pub enum Remaining {
     Pmr,
     Pgr,
     Plr,
-    Wir,
-    Wrr,
     Wcr,
     Tsr,
     Ptr,
@@ -32,6 +30,8 @@ pub enum Kind {
     Sbr,
     Rdr,
     Sdr,
+    Wir,
+    Wrr,
     Pir,
     Prr,
     Remaining(Remaining),
@@ -57,8 +57,8 @@ const PAIRS: [Pair; PAIR_COUNT] = [
     Pair(1, 63, Kind::Remaining(Remaining::Plr)),
     Pair(1, 70, Kind::Rdr),
     Pair(1, 80, Kind::Sdr),
-    Pair(2, 10, Kind::Remaining(Remaining::Wir)),
-    Pair(2, 20, Kind::Remaining(Remaining::Wrr)),
+    Pair(2, 10, Kind::Wir),
+    Pair(2, 20, Kind::Wrr),
     Pair(2, 30, Kind::Remaining(Remaining::Wcr)),
     Pair(5, 10, Kind::Pir),
     Pair(5, 20, Kind::Prr),
@@ -132,10 +132,19 @@ fn searched(table: [Pair; PAIR_COUNT], typ: u8, sub: u8) -> Kind
     beyond(table, typ, sub)
 }
 
-// The kind that a type and a subtype name.
+// The kind that a type and a subtype name. PIR and PRR are asked for before the table is searched: of the records whose
+// kind a stream's walk has to know they are nearly all.
 pub fn kind_of(typ: u8, sub: u8) -> Kind
     ensures { λ r. ⌜ r ≡ kindOf typ sub ⌝ }
 {
+    if typ == 5 {
+        if sub == 10 {
+            return Kind::Pir;
+        }
+        if sub == 20 {
+            return Kind::Prr;
+        }
+    }
     searched(PAIRS, typ, sub)
 }
 
@@ -154,6 +163,8 @@ pub fn is_known(kind: Kind) -> bool
         Kind::Sbr => true,
         Kind::Rdr => true,
         Kind::Sdr => true,
+        Kind::Wir => true,
+        Kind::Wrr => true,
         Kind::Pir => true,
         Kind::Prr => true,
         Kind::Remaining(_) => true,

@@ -1,11 +1,11 @@
 -- The ways in which a later record is judged, as a law by which every other is shown: a refusal, or what its kind does.
 -- And its order of checks as a list (specs/Laws.antt), proved.
 -- Assumes nothing.
-use mathlib.Core.Path.{_≡_, refl, ap, _∙_}
-use mathlib.Core.Bool.{true, false, false≢true}
+use mathlib.Core.Path.{_≡_, refl, ap, sym, _∙_}
+use mathlib.Core.Bool.{Bool, true, false, false≢true}
 use mathlib.Core.List.{List}
 use Prim.Native.Nat.{ℕ}
-use native.Mathlib.Omega.{arith}
+use lib.ListN.{take}
 use Rattle.prelude.specs.Choice.{_unless_then_}
 use Rattle.prelude.proofs.Checks.{choice-by, check-first}
 use Rattle.answers.specs.declared.Answer.{Answer}
@@ -15,9 +15,6 @@ use Rattle.kinds.specs.declared.Kind.{Kind}
 use Rattle.kinds.specs.declared.Kind.the-variants as kind
 use Rattle.kinds.specs.Kinds.{kindOf, known}
 use Rattle.frames.specs.Frames.{recTyp, recSub, body, isRecord}
-use Rattle.count_bodies.specs.declared.Pcr.{Pcr}
-use Rattle.part_bodies.specs.declared.Pir.{Pir}
-use Rattle.part_bodies.specs.declared.Prr.{Prr}
 use Rattle.bodies.specs.declared.Record.{Record}
 use Rattle.bodies.specs.declared.Record.the-variants as said
 use Rattle.bodies.specs.declared.Reading.{Reading}
@@ -43,13 +40,14 @@ use Rattle.later_records.specs.Later.{at, judgeLater}
 use Rattle.later_records.specs.Results.{None, resultIn}
 use Rattle.later_records.specs.Laws.{LaterNumber}
 
-module _ (parts : List ℕ) (P : Verdict → Type 0) (refused : (a : Answer) → ByItself parts a → P (Refused a)) where
-  pub later-cases : (st : Standing) (rec : List ℕ)
+module _ (st : Standing) (cells : List ℕ) (P : Verdict → Type 0)
+    (refused : (a : Answer) → ByItself (take (st .opened) cells) a → P (Refused a)) where
+  pub later-cases : (rec : List ℕ)
       → ((k : Kind) (q : Place) (r : Record) → kindOf (recTyp rec) (recSub rec) ≡ k → goes (st .place) k ≡ To q
-      → readBody (st .order) k (body rec) ≡ Fits r → P (judgeSaid (at st q) parts r))
-      → P (judgeLater st parts rec)
+      → readBody (st .order) k (body rec) ≡ Fits r → P (judgeSaid (at st q) cells r))
+      → P (judgeLater st cells rec)
   unfolding judgeLater
-  later-cases st rec accepted =
+  later-cases rec accepted =
       choice-by P _ (isRecord (st .order) rec) _ (refused answer.NotOneRecord (refl, refl)) (λ _.
       choice-by P _ (known named) _ (refused answer.UnknownKind (refl, refl)) (λ _.
       by-step (goes (st .place) named) (readBody (st .order) named (body rec)) refl refl))
@@ -61,57 +59,61 @@ module _ (parts : List ℕ) (P : Verdict → Type 0) (refused : (a : Answer) →
           → readBody (st .order) named (body rec) ≡ reading
           → P (Refused answer.OutOfPlace unless inPlace step then
           Refused answer.BodyMisfit unless fitting reading then
-          judgeSaid (at st (placeAfter step)) parts (saidOf reading))
+          judgeSaid (at st (placeAfter step)) cells (saidOf reading))
       by-step OutOfPlace reading e f = refused answer.OutOfPlace (refl, refl)
       by-step (To q) Misfit e f = refused answer.BodyMisfit (refl, refl)
       by-step (To q) (Fits r) e f = accepted named q r refl e f
 
 -- ---- where a record stands that does something
 
--- a kind that may stand before the body says nothing that the house looks at
-opening-quiet : (order : Order) (k : Kind) (b : List ℕ) → opening k ≡ true → quiet (saidBy order k b) ≡ true
-opening-quiet order kind.Far b h = refl
-opening-quiet order kind.Atr b h = refl
-opening-quiet order kind.Mir b h = refl
-opening-quiet order kind.Rdr b h = refl
-opening-quiet order kind.Sdr b h = refl
-opening-quiet order kind.Mrr b h = h
-opening-quiet order kind.Pcr b h = h
-opening-quiet order kind.Hbr b h = refl
-opening-quiet order kind.Sbr b h = refl
-opening-quiet order kind.Pir b h = h
-opening-quiet order kind.Prr b h = h
-opening-quiet order (kind.Remaining j) b h = refl
-opening-quiet order kind.Custom b h = refl
-opening-quiet order kind.Unknown b h = refl
+-- what the house looks at in the body
+abbrev pub acts : Record → Bool
+acts (said.Pcr p) = true
+acts (said.Pir p) = true
+acts (said.Prr p) = true
+acts (said.Wir w) = true
+acts (said.Wrr w) = true
+acts said.Mrr = false
+acts (said.Far f) = false
+acts said.Mir = false
+acts (said.Bin b) = false
+acts said.Unread = false
+
+-- a kind that may stand before the body says nothing of that
+opening-still : (order : Order) (k : Kind) (b : List ℕ) → opening k ≡ true → acts (saidBy order k b) ≡ false
+opening-still order kind.Far b h = refl
+opening-still order kind.Atr b h = refl
+opening-still order kind.Mir b h = refl
+opening-still order kind.Rdr b h = refl
+opening-still order kind.Sdr b h = refl
+opening-still order kind.Mrr b h = refl
+opening-still order kind.Pcr b h = sym h
+opening-still order kind.Hbr b h = refl
+opening-still order kind.Sbr b h = refl
+opening-still order kind.Pir b h = sym h
+opening-still order kind.Prr b h = sym h
+opening-still order kind.Wir b h = sym h
+opening-still order kind.Wrr b h = sym h
+opening-still order (kind.Remaining j) b h = refl
+opening-still order kind.Custom b h = refl
+opening-still order kind.Unknown b h = refl
 
 -- a record in its place, of a kind that was named and a body that fits
 module _ (order : Order) (p q : Place) (k : Kind) (b : List ℕ) (r : Record) (to : goes p k ≡ To q)
     (fits : readBody order k b ≡ Fits r) where
-  quiet-before : before q ≡ true → quiet r ≡ true
-  quiet-before h =
-      ap quiet (said-by order k b r fits) ∙ opening-quiet order k b (before-by-opening p q k to h)
+  still-before : before q ≡ true → acts r ≡ false
+  still-before h = ap acts (said-by order k b r fits) ∙ opening-still order k b (before-by-opening p q k to h)
 
   pub mrr-at-end : ended q ≡ true → r ≡ said.Mrr
   mrr-at-end h =
       said-by order k b r fits ∙ ap (λ (j : Kind). saidBy order j b) (ended-by-mrr p q k to h)
 
-  -- a record that the house looks at, and no MRR, stands in the body
-  pub in-body : (st : Standing) → quiet r ≡ false → (r ≡ said.Mrr → ⊥) → standsRight q st ≡ true
-  in-body st loud other =
+  -- what the house looks at in the body stands there
+  pub in-body : (st : Standing) → acts r ≡ true → standsRight q st ≡ true
+  in-body st act =
       stands-from q st
-      (λ h. let quieted = quiet-before h in let never : _≡_ {A = ℕ} 0 1 = cc in absurd (omega arith))
-      (λ h. absurd (other (mrr-at-end h)))
-
--- two different things that a record says
-pub pir-no-mrr : (r : Record) (p : Pir) → r ≡ said.Pir p → r ≡ said.Mrr → ⊥
-pir-no-mrr r p e f = let never : _≡_ {A = ℕ} 0 1 = cc in omega arith
-
-pub prr-no-mrr : (r : Record) (p : Prr) → r ≡ said.Prr p → r ≡ said.Mrr → ⊥
-prr-no-mrr r p e f = let never : _≡_ {A = ℕ} 0 1 = cc in omega arith
-
-pub pcr-no-mrr : (r : Record) (p : Pcr) → r ≡ said.Pcr p → r ≡ said.Mrr → ⊥
-pcr-no-mrr r p e f = let never : _≡_ {A = ℕ} 0 1 = cc in omega arith
+      (λ h. absurd (false≢true (sym (still-before h) ∙ act)))
+      (λ h. absurd (false≢true (sym (ap acts (mrr-at-end h)) ∙ act)))
 
 -- ---- what it counts
 
@@ -124,13 +126,15 @@ quiet-none said.Mrr h = refl
 quiet-none (said.Pcr p) h = refl
 quiet-none (said.Pir p) h = refl
 quiet-none (said.Prr p) h = absurd (false≢true h)
+quiet-none (said.Wir w) h = refl
+quiet-none (said.Wrr w) h = refl
 
 -- ---- the order of checks, as a list
 
 -- a step moves the place alone, which no kind's own checks look at
 pub later-number : LaterNumber
 unfolding judgeLater
-later-number st parts rec =
+later-number st cells rec =
     let kind = kindOf (recTyp rec) (recSub rec) in
     let step = goes (st .place) kind in
     let reading = readBody (st .order) kind (body rec) in
@@ -138,4 +142,4 @@ later-number st parts rec =
     check-first verdictNumber _ (known kind) _ 6 _ refl (λ b.
     check-first verdictNumber _ (inPlace step) _ 8 _ refl (λ c.
     check-first verdictNumber _ (fitting reading) _ 7 _ refl (λ d.
-    own-number (at st (placeAfter step)) parts (saidOf reading)))))
+    own-number (at st (placeAfter step)) cells (saidOf reading)))))

@@ -21,33 +21,41 @@ use Rattle.session.specs.Session.{LentParts}
 use Rattle.kind_effects.specs.Effects.{judgeSaid}
 use Rattle.later_records.specs.Later.{at, judgeLater}
 
--- parts are lent where a stream goes on
+-- cells are lent where a stream goes on
 pub lent-at : (st : Standing) (cells : List ℕ) (place : Place) → LentParts st cells → LentParts (at st place) cells
-lent-at st cells place k = record { few = k .few; within = k .within; rises = k .rises }
+lent-at st cells place k =
+    record {
+      long = k .long;
+      few = k .few;
+      within = k .within;
+      rises = k .rises;
+      fewWafers = k .fewWafers;
+      headsRise = k .headsRise;
+    }
 
-module _ (st : Standing) (parts rec : List ℕ) where
-  pub later-frame : isRecord (st .order) rec ≡ false → judgeLater st parts rec ≡ Refused answer.NotOneRecord
+module _ (st : Standing) (cells rec : List ℕ) where
+  pub later-frame : isRecord (st .order) rec ≡ false → judgeLater st cells rec ≡ Refused answer.NotOneRecord
   unfolding judgeLater
   later-frame e = rw e
 
   module _ (framed : isRecord (st .order) rec ≡ true) (kind : Kind) (named : kind ≡ kindOf (recTyp rec) (recSub rec))
     where
-      pub later-unknown : known kind ≡ false → judgeLater st parts rec ≡ Refused answer.UnknownKind
+      pub later-unknown : known kind ≡ false → judgeLater st cells rec ≡ Refused answer.UnknownKind
       unfolding judgeLater
       later-unknown e = rw (framed, ← named, e)
 
       module _ (is-known : known kind ≡ true) where
-        pub later-out : goes (st .place) kind ≡ OutOfPlace → judgeLater st parts rec ≡ Refused answer.OutOfPlace
+        pub later-out : goes (st .place) kind ≡ OutOfPlace → judgeLater st cells rec ≡ Refused answer.OutOfPlace
         unfolding judgeLater
         later-out e = rw (framed, ← named, is-known, e)
 
         module _ (place : Place) (to : goes (st .place) kind ≡ To place) where
           pub later-misfit : readBody (st .order) kind (body rec) ≡ Misfit
-              → judgeLater st parts rec ≡ Refused answer.BodyMisfit
+              → judgeLater st cells rec ≡ Refused answer.BodyMisfit
           unfolding judgeLater
           later-misfit e = rw (framed, ← named, is-known, to, e)
 
           pub later-said : (said : Record) → readBody (st .order) kind (body rec) ≡ Fits said
-              → judgeLater st parts rec ≡ judgeSaid (at st place) parts said
+              → judgeLater st cells rec ≡ judgeSaid (at st place) cells said
           unfolding judgeLater
           later-said said e = rw (framed, ← named, is-known, to, e)

@@ -19,11 +19,18 @@ use Rattle.kind_effects.specs.Effects.{judgeSaid}
 
 abbrev pub at : Standing → Place → Standing
 at st place =
-    record { place = place; order = st .order; opened = st .opened; pcr = st .pcr; results = st .results }
+    record {
+      place = place;
+      order = st .order;
+      opened = st .opened;
+      pcr = st .pcr;
+      results = st .results;
+      wafers = st .wafers;
+    }
 
--- Later records: 3, 6, 8, 7, then 9 or 10, 11, 12, 20, 14
+-- Later records: 3, 6, 8, 7, then what its kind asks by itself, last 14
 unfoldable pub judgeLater : Standing → List ℕ → List ℕ → Verdict
-judgeLater st parts rec =
+judgeLater st cells rec =
     let kind = kindOf (recTyp rec) (recSub rec) in
     let step = goes (st .place) kind in
     let reading = readBody (st .order) kind (body rec) in
@@ -31,4 +38,4 @@ judgeLater st parts rec =
     Refused answer.UnknownKind unless known kind then
     Refused answer.OutOfPlace unless inPlace step then
     Refused answer.BodyMisfit unless fitting reading then
-    judgeSaid (at st (placeAfter step)) parts (saidOf reading)
+    judgeSaid (at st (placeAfter step)) cells (saidOf reading)

@@ -3,7 +3,6 @@
 --   laterChecks   its order of checks, as a list, of what is known of the stream
 -- Assumes nothing.
 use mathlib.Core.Path.{_≡_}
-use mathlib.Core.Bool.{Bool}
 use mathlib.Core.List.{List, _∷_}
 use Prim.Native.Nat.{ℕ}
 use Rattle.prelude.specs.Checks.{Check, _else_, numberBy}
@@ -13,28 +12,23 @@ use Rattle.frames.specs.Frames.{recTyp, recSub, body, isRecord}
 use Rattle.bodies.specs.Bodies.{readBody, fitting, saidOf}
 use Rattle.order.specs.declared.Place.{Place}
 use Rattle.order.specs.Order.{goes, inPlace}
-use Rattle.rising.specs.Rising.{held}
 use Rattle.session.specs.declared.Standing.{Standing}
-use Rattle.session.specs.Session.{partOf}
 use Rattle.session.specs.Verdicts.{verdictNumber}
-use Rattle.kind_effects.specs.Laws.{ownChecks}
+use Rattle.kind_effects.specs.Laws.{Seen, seenOf, ownChecks}
 use Rattle.later_records.specs.Later.{judgeLater}
 
--- Later records: 3, 6, 8, 7, then 9 or 10, 11, 12, 20, 14; room, 13, is the house's to judge, and last
-abbrev pub laterChecks : Order → Place → (ℕ → ℕ → Bool) → ℕ → ℕ → Bool → List ℕ → List (Check ℕ)
-laterChecks order place isOpen opened results pcr rec =
+-- Later records: 3, 6, 8, 7, then what its kind asks by itself; room, 13, is the house's to judge, and last
+abbrev pub laterChecks : Order → Place → Seen → List ℕ → List (Check ℕ)
+laterChecks order place seen rec =
     let kind = kindOf (recTyp rec) (recSub rec) in
     let reading = readBody order kind (body rec) in
     (isRecord order rec else 3)
     ∷ (known kind else 6)
     ∷ (inPlace (goes place kind) else 8)
     ∷ (fitting reading else 7)
-    ∷ ownChecks isOpen opened results pcr (saidOf reading)
+    ∷ ownChecks seen (saidOf reading)
 
--- .. of a session: a part is open whose number is held
 abbrev pub LaterNumber : Type 0
-LaterNumber = (st : Standing) (parts rec : List ℕ)
-    → verdictNumber (judgeLater st parts rec)
-    ≡ numberBy
-    (laterChecks (st .order) (st .place) (λ (head site : ℕ). held (partOf head site) parts) (st .opened) (st .results)
-    (st .pcr) rec)
+LaterNumber = (st : Standing) (cells rec : List ℕ)
+    → verdictNumber (judgeLater st cells rec)
+    ≡ numberBy (laterChecks (st .order) (st .place) (seenOf st cells) rec)

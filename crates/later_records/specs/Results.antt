@@ -27,6 +27,8 @@ resultIn said.Mrr = None
 resultIn (said.Pcr p) = None
 resultIn (said.Bin b) = None
 resultIn (said.Pir p) = None
+resultIn (said.Wir w) = None
+resultIn (said.Wrr w) = None
 resultIn said.Unread = None
 
 abbrev pub resultRead : Reading → Result

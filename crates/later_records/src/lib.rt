@@ -13,8 +13,6 @@ use order::next_place;
 use session::Standing;
 use session::Verdict;
 ghost use mathlib.Core.Path.{_≡_};
-ghost use Prim.Native.Nat.{_≤_, _<_, _+_};
-ghost use lib.ListN.{take};
 ghost use Rattle.session.specs.Session.{LentParts};
 ghost use Rattle.later_records.specs.Later.{at, judgeLater};
 
@@ -28,14 +26,15 @@ fn placed(st: Standing, place: Place) -> Standing
         opened: st.opened,
         pcr: st.pcr,
         results: st.results,
+        wafers: st.wafers,
     }
 }
 
-// What a later record does to a session whose parts are lent: nothing is copied, and nothing is tested that the caller
-// knows. In the body, a record whose body is not read looks at no part.
+// What a later record does to a session whose cells are lent: nothing is copied, and nothing is tested that the caller
+// knows. In the body, a record whose body is not read looks at none of them.
 pub fn judge_later(st: Standing, parts: &[u64], rec: &[u8]) -> Verdict
     requires { ⌜ LentParts st (now parts) ⌝ }
-    ensures { λ r. ⌜ r ≡ judgeLater st (take (st .opened) (now (parts .entry))) (now (rec .entry)) ⌝ }
+    ensures { λ r. ⌜ r ≡ judgeLater st (now (parts .entry)) (now (rec .entry)) ⌝ }
 {
     let order = st.order;
     if !is_record(order, rec) {

@@ -121,7 +121,7 @@ fn result_lent(
     change: Change,
     key: u32,
 ) -> Delivered
-    requires { ⌜ LentCore room (now keys) (now counts) used st (now parts) × Within (st .opened) change ⌝ }
+    requires { ⌜ LentCore room (now keys) (now counts) used st (now parts) × Within st change ⌝ }
     ensures { λ r. ⌜ (outcome (r .answer) (now (keys .exit)) (now (counts .exit)) (r .used) (r .standing)
         (now (parts .exit))
         ≡ resultedIf room (core (now (keys .entry)) (now (counts .entry)) used st (now (parts .entry))) change key)
@@ -169,7 +169,7 @@ pub fn settle_lent(
     parts: &mut [u64],
     verdict: Verdict,
 ) -> Delivered
-    requires { ⌜ LentCore room (now keys) (now counts) used st (now parts) × Settles (st .opened) verdict ⌝ }
+    requires { ⌜ LentCore room (now keys) (now counts) used st (now parts) × Settles st verdict ⌝ }
     ensures { λ r. ⌜ (outcome (r .answer) (now (keys .exit)) (now (counts .exit)) (r .used) (r .standing)
         (now (parts .exit))
         ≡ settled room (core (now (keys .entry)) (now (counts .entry)) used st (now (parts .entry))) verdict)
@@ -223,7 +223,7 @@ pub fn deliver_lent(
         (now (rec .entry)))
         × (now (guesses .exit)
         ≡ guessed room (core (now (keys .entry)) (now (counts .entry)) used st (now (parts .entry)))
-        (judge st (take (st .opened) (now (parts .entry))) (now (rec .entry))) (now (guesses .entry))) ⌝ }
+        (judge st (now (parts .entry)) (now (rec .entry))) (now (guesses .entry))) ⌝ }
 {
     let verdict = judge_lent(st, parts, rec);
     settle_lent(keys, counts, used, guesses, room, st, parts, verdict)

@@ -1,4 +1,4 @@
-// The calls on count lines as the desk makes them: `write`, a record to its line, and `read`, a line to its record; and
+// The calls on record lines as the desk makes them: `write`, a record to its line, and `read`, a line to its record; and
 // what is written of them. Document 01, "Count lines". No contract can say what is written to standard output, so
 // nothing is promised here but safety.
 use asking::Way;

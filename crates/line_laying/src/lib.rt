@@ -1,20 +1,21 @@
-// Fields laid out one after the other, as the text of a line or as a record: document 01, "Count lines", a stated
-// offset of the lent output. Each writer gets the part behind what the last one wrote.
+// Fields laid out one after the other, as the text of a line or as a record: document 01, "Count lines", a
+// stated offset of the lent output; #103, dates. Each writer gets the part behind what the last one wrote.
 use answers::Answer;
 use line_layouts::Form;
 use line_layouts::Layout;
 use line_layouts::Line;
 use line_layouts::Said;
 use line_layouts::Tag;
-use line_layouts::columns::COUNT_TYPE;
 use line_layouts::columns::LINE_FEED;
 use line_layouts::columns::bar_of;
 use line_layouts::columns::column_at;
 use line_layouts::columns::column_count;
 use line_layouts::columns::order_at;
 use line_layouts::columns::sub_of;
+use line_layouts::columns::type_of;
 use line_layouts::columns::width_of;
 use line_layouts::forms::is_name;
+use line_layouts::forms::is_time;
 use line_layouts::forms::missing_value;
 use line_layouts::judging::is_missing;
 use line_layouts::judging::said_at;
@@ -27,20 +28,43 @@ ghost use mathlib.Core.List.{[], _∷_};
 ghost use lib.ListN.{length};
 ghost use Rattle.numbers.specs.Numbers.{written};
 ghost use Rattle.output.specs.Placed.{Put, Room, outcome, placedAt};
-ghost use Rattle.line_layouts.specs.Columns.{tagText, columns, width};
+ghost use Rattle.line_layouts.specs.Columns.{tagText, columns, mostColumns, width};
 ghost use Rattle.line_layouts.specs.Entries.{named, entryOf, meaningOf, Within, AllWithin, Nth};
-ghost use Rattle.line_layouts.specs.Layouts.{entryText, countedName, counted, stored, mark};
+ghost use Rattle.line_layouts.specs.Layouts.{numberText, entryText, countedName, counted, stored, mark};
 ghost use Rattle.line_layouts.specs.Layouts.{marked, barIn, columnOf, nthBytes, restOf, Stops, Sized, headOf};
 ghost use Rattle.line_layouts.specs.Layouts.{laidOut};
 
+// A number in a line: a time is a date.
+fn put_spelt(out: &mut [u8], form: Form, n: u32) -> usize
+    requires { ⌜ Room (numberText form n) (now out) ⌝ }
+    ensures { λ r. ⌜ Put (numberText form n) (now (out .entry)) r (now (out .exit)) ⌝ }
+{
+    if is_time(form) {
+        dates::write_date(out, n)
+    } else {
+        digits::put_digits(out, n)
+    }
+}
+
+fn spelt_size(form: Form, n: u32) -> usize
+    ensures { λ r. ⌜ (r ≡ length (numberText form n)) × (r ≤ 20) ⌝ }
+{
+    if is_time(form) {
+        dates::date_size(n)
+    } else {
+        digits::width(n)
+    }
+}
+
 // An entry in a line.
-fn put_entry(out: &mut [u8], source: &[u8], said: Said) -> usize
-    requires { ⌜ Within (now source) said × Room (entryText (entryOf (now source) said)) (now out) ⌝ }
-    ensures { λ r. ⌜ Put (entryText (entryOf (now (source .entry)) said)) (now (out .entry)) r (now (out .exit)) ⌝ }
+fn put_entry(out: &mut [u8], form: Form, source: &[u8], said: Said) -> usize
+    requires { ⌜ Within (now source) said × Room (entryText form (entryOf (now source) said)) (now out) ⌝ }
+    ensures { λ r. ⌜ Put (entryText form (entryOf (now (source .entry)) said)) (now (out .entry)) r
+        (now (out .exit)) ⌝ }
 {
     match said {
         Said::Missing => 0,
-        Said::Number(n) => digits::put_digits(out, n),
+        Said::Number(n) => put_spelt(out, form, n),
         Said::Text(name) => {
             let at = name.at;
             let len = name.len;
@@ -49,13 +73,13 @@ fn put_entry(out: &mut [u8], source: &[u8], said: Said) -> usize
     }
 }
 
-fn entry_size(source: &[u8], said: Said) -> usize
+fn entry_size(form: Form, source: &[u8], said: Said) -> usize
     requires { ⌜ Within (now source) said ⌝ }
-    ensures { λ r. ⌜ (r ≡ length (entryText (entryOf (now (source .entry)) said))) × (r ≤ 255) ⌝ }
+    ensures { λ r. ⌜ (r ≡ length (entryText form (entryOf (now (source .entry)) said))) × (r ≤ 255) ⌝ }
 {
     match said {
         Said::Missing => 0,
-        Said::Number(n) => digits::width(n),
+        Said::Number(n) => spelt_size(form, n),
         Said::Text(name) => name.len,
     }
 }
@@ -148,12 +172,12 @@ fn mark_of(sep: u8, last: bool) -> u8
 }
 
 // An entry in a line, and the byte behind it.
-fn put_marked(out: &mut [u8], source: &[u8], said: Said, sep: u8, last: bool) -> usize
-    requires { ⌜ Within (now source) said × Room (marked sep (entryOf (now source) said) last) (now out) ⌝ }
-    ensures { λ r. ⌜ Put (marked sep (entryOf (now (source .entry)) said) last) (now (out .entry)) r
+fn put_marked(out: &mut [u8], form: Form, source: &[u8], said: Said, sep: u8, last: bool) -> usize
+    requires { ⌜ Within (now source) said × Room (marked sep form (entryOf (now source) said) last) (now out) ⌝ }
+    ensures { λ r. ⌜ Put (marked sep form (entryOf (now (source .entry)) said) last) (now (out .entry)) r
         (now (out .exit)) ⌝ }
 {
-    let n = put_entry(out, source, said);
+    let n = put_entry(out, form, source, said);
     n + output::put_byte(&mut out[n..], mark_of(sep, last))
 }
 
@@ -179,7 +203,7 @@ fn put_nth(out: &mut [u8], layout: Layout, source: &[u8], line: Line, j: usize, 
     let column = column_at(tag, i);
     let form = column.0;
     match layout {
-        Layout::Text(sep) => put_marked(out, source, said, sep, j + 1 == n),
+        Layout::Text(sep) => put_marked(out, form, source, said, sep, j + 1 == n),
         Layout::Record(order) => put_stored(out, order, form, source, said),
     }
 }
@@ -194,7 +218,7 @@ fn nth_size(layout: Layout, source: &[u8], line: Line, j: usize, n: usize) -> us
     let column = column_at(tag, i);
     let form = column.0;
     match layout {
-        Layout::Text(_) => entry_size(source, said) + 1,
+        Layout::Text(_) => entry_size(form, source, said) + 1,
         Layout::Record(order) => stored_size(order, form, source, said),
     }
 }
@@ -244,7 +268,7 @@ fn bar_in(layout: Layout, tag: Tag) -> usize
 
 // How many fields are laid out: up to the last present one, and those that must stand.
 fn present_count(layout: Layout, line: Line) -> usize
-    requires { ⌜ length (line .fields) ≡ 7 ⌝ }
+    requires { ⌜ length (line .fields) ≡ mostColumns ⌝ }
     ensures { λ r. ⌜ Stops layout line r ⌝ }
 {
     let tag = line.tag;
@@ -279,6 +303,8 @@ fn put_tag(out: &mut [u8], tag: Tag) -> usize
         Tag::Pcr => put_four(out, b'P', b'C', b'R', b':'),
         Tag::Hbr => put_four(out, b'H', b'B', b'R', b':'),
         Tag::Sbr => put_four(out, b'S', b'B', b'R', b':'),
+        Tag::Wir => put_four(out, b'W', b'I', b'R', b':'),
+        Tag::Wrr => put_four(out, b'W', b'R', b'R', b':'),
     }
 }
 
@@ -297,7 +323,7 @@ fn put_header(out: &mut [u8], order: Order, tag: Tag, size: u32) -> usize
     ensures { λ r. ⌜ Put (headOf (Layout.Record order) tag size) (now (out .entry)) r (now (out .exit)) ⌝ }
 {
     let n = put_number(out, order, Form::U2, size);
-    n + put_pair(&mut out[n..], COUNT_TYPE, sub_of(tag))
+    n + put_pair(&mut out[n..], type_of(tag), sub_of(tag))
 }
 
 fn put_head(out: &mut [u8], layout: Layout, tag: Tag, size: u32) -> usize

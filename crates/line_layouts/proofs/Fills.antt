@@ -12,6 +12,7 @@ use lib.ListN.{length, getD, take, drop, set, replicate, length-append, length-t
 use lib.ListN.{List·getD-eq-default}
 use lib.Seq.{take-all, take-suc-set, getD-set-same, getD-set-other, getD-take, getD-drop, ext-getD}
 use Rattle.line_layouts.specs.declared.Field.{Field}
+use Rattle.line_layouts.specs.Columns.{mostColumns}
 use Rattle.line_layouts.specs.Entries.{Entry, entryOf, noField, noFields, padded, Within}
 
 pub map-append : (f : Field → Entry) (xs ys : List Field) → map f (xs ++ ys) ≡ map f xs ++ map f ys
@@ -32,7 +33,7 @@ alike-at A a (suc n) zero = refl
 alike-at A a (suc n) (suc i) = alike-at A a n i
 
 none-at : (i : ℕ) → getD noFields i noField ≡ noField
-none-at i = alike-at Field noField 7 i
+none-at i = alike-at Field noField mostColumns i
 
 append-none : (fs ns : List Field) → ((i : ℕ) → getD ns i noField ≡ noField)
     → (i : ℕ) → getD (fs ++ ns) i noField ≡ getD fs i noField
@@ -45,7 +46,7 @@ padded-at fs i =
     append-none fs (drop (length fs) noFields)
     (λ (k : ℕ). getD-drop (length fs) noFields k noField ∙ none-at (length fs + k)) i
 
-pub length-padded : (fs : List Field) → length fs ≤ 7 → length (padded fs) ≡ 7
+pub length-padded : (fs : List Field) → length fs ≤ mostColumns → length (padded fs) ≡ mostColumns
 length-padded fs h =
     length-append fs (drop (length fs) noFields) ∙ omega (arith, length-drop (length fs) noFields)
 
@@ -76,10 +77,10 @@ module _ (A : Type 0) (none : A) (all : List A) (j : ℕ) where
           rw (add-one j, getD-set-other xs j i a none other) (so-far i ∙ later other (ltb i j) refl)
 
 -- fields stored one by one are all of them, and past them none
-pub stored-all : (all fs : List Field) (j : ℕ) → length all ≤ j → length all ≤ 7 → length fs ≡ 7
+pub stored-all : (all fs : List Field) (j : ℕ) → length all ≤ j → length all ≤ mostColumns → length fs ≡ mostColumns
     → ((i : ℕ) → getD fs i noField ≡ getD (take j all) i noField) → fs ≡ padded all
-stored-all all fs j done few seven so-far =
-    ext-getD noField fs (padded all) (seven ∙ sym (length-padded all few))
+stored-all all fs j done few full so-far =
+    ext-getD noField fs (padded all) (full ∙ sym (length-padded all few))
     (λ (i : ℕ) inside. so-far i ∙ ap (λ (l : List Field). getD l i noField) (take-all j all done)
     ∙ sym (padded-at all i))
 

@@ -17,7 +17,7 @@ use Rattle.output.specs.Placed.{Put}
 use Rattle.output.proofs.Laws.{length-part}
 use Rattle.values.specs.declared.Name.{Name}
 use Rattle.line_layouts.specs.declared.Tag.{Tag}
-use Rattle.line_layouts.specs.declared.Tag.the-variants.{Pcr, Hbr, Sbr}
+use Rattle.line_layouts.specs.declared.Tag.the-variants.{Pcr, Hbr, Sbr, Wir, Wrr}
 use Rattle.line_layouts.specs.declared.Said.{Said}
 use Rattle.line_layouts.specs.declared.Said.the-variants as said
 use Rattle.line_layouts.specs.declared.Field.{Field}
@@ -26,8 +26,8 @@ use Rattle.line_layouts.specs.declared.Column.{Column}
 use Rattle.line_layouts.specs.declared.Layout.{Layout}
 use Rattle.line_layouts.specs.declared.Layout.the-variants as layout
 use Rattle.line_layouts.specs.declared.Form.{Form}
-use Rattle.line_layouts.specs.declared.Form.the-variants.{U1, U2, U4, C1, Cn}
-use Rattle.line_layouts.specs.Columns.{columns, noColumn, width, order, back}
+use Rattle.line_layouts.specs.declared.Form.the-variants.{U1, U2, U4, Time, C1, Cn}
+use Rattle.line_layouts.specs.Columns.{columns, mostColumns, noColumn, width, order, back}
 use Rattle.line_layouts.specs.Entries.{Entry, Missing, Number, Text, named, entryOf, entriesOf}
 use Rattle.line_layouts.specs.Entries.{meaningOf, noField}
 use Rattle.line_layouts.specs.Entries.{isMissing, Within, kept, present}
@@ -60,6 +60,7 @@ pub width-one : (form : Form) → (width form ≡ 4 → ⊥) → (width form ≡
 width-one U1 four two = refl
 width-one U2 four two = absurd (two refl)
 width-one U4 four two = absurd (four refl)
+width-one Time four two = absurd (four refl)
 width-one C1 four two = refl
 width-one Cn four two = refl
 
@@ -87,9 +88,9 @@ module _ (ends : Order) (form : Form) (bytes : List ℕ) where
 
 -- ---- an entry in a line
 
-pub marked-size : (sep : ℕ) (e : Entry) (last : Bool) {r : ℕ} → r ≡ length (entryText e)
-    → r + 1 ≡ length (marked sep e last)
-marked-size sep e last is = omega (arith, length-append (entryText e) (mark sep last ∷ []))
+pub marked-size : (sep : ℕ) (form : Form) (e : Entry) (last : Bool) {r : ℕ} → r ≡ length (entryText form e)
+    → r + 1 ≡ length (marked sep form e last)
+marked-size sep form e last is = omega (arith, length-append (entryText form e) (mark sep last ∷ []))
 
 -- ---- field number j
 
@@ -105,10 +106,12 @@ length-map : (f : Field → Entry) (l : List Field) → length (map f l) ≡ len
 length-map f [] = refl
 length-map f (x ∷ l) = ap suc (length-map f l)
 
-pub most-columns : (tag : Tag) → length (columns tag) ≤ 7
+pub most-columns : (tag : Tag) → length (columns tag) ≤ mostColumns
 most-columns Pcr = omega arith
 most-columns Hbr = omega arith
 most-columns Sbr = omega arith
+most-columns Wir = omega arith
+most-columns Wrr = omega arith
 
 is-last : (l : List Entry) (j n : ℕ) → length l ≡ n - suc j → j < n → isLast l ≡ eqb (j + 1) n
 is-last [] j n e h = sym (eq-eqb (j + 1) n (omega arith))
@@ -133,6 +136,8 @@ bar-few (layout.Text sep) tag = omega arith
 bar-few (layout.Record ends) Pcr = omega arith
 bar-few (layout.Record ends) Hbr = omega arith
 bar-few (layout.Record ends) Sbr = omega arith
+bar-few (layout.Record ends) Wir = omega arith
+bar-few (layout.Record ends) Wrr = omega arith
 
 module _ (A : Type 0) (none : A) where
   length-in : (layout : Layout) (tag : Tag) (xs : List A) → length xs ≡ length (columns tag)
@@ -185,7 +190,7 @@ entry-value source (said.Number n) e (suc k) = refl
 entry-value source (said.Text name) e zero = refl
 entry-value source (said.Text name) e (suc k) = refl
 
-module _ (source : List ℕ) (line : Line) (seven : length (line .fields) ≡ 7) where
+module _ (source : List ℕ) (line : Line) (full : length (line .fields) ≡ mostColumns) where
   pub said-at : (j : ℕ) → j < length (columns (line .tag))
       → getD (entriesOf source line) j Missing ≡ entryOf source (getD (line .fields) j noField .said)
   said-at j h =
@@ -199,7 +204,7 @@ module _ (source : List ℕ) (line : Line) (seven : length (line .fields) ≡ 7)
       (omega (
         arith,
         length-map (λ (x : Field). entryOf source (x .said)) (line .fields),
-        seven,
+        full,
         most-columns (line .tag),
       ))
 
@@ -290,6 +295,8 @@ pub length-head : (layout : Layout) (tag : Tag) (size : ℕ) → length (headOf 
 length-head (layout.Text sep) Pcr size = refl
 length-head (layout.Text sep) Hbr size = refl
 length-head (layout.Text sep) Sbr size = refl
+length-head (layout.Text sep) Wir size = refl
+length-head (layout.Text sep) Wrr size = refl
 length-head (layout.Record ends) tag size = rw (length-append, length-written ends 2 size)
 
 module _ (layout : Layout) (source : List ℕ) (line : Line) (n size : ℕ) (sized : Sized layout source line n size) where

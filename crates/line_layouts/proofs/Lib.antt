@@ -4,3 +4,5 @@ pub mod Laid
 pub mod Fills
 pub mod Faults
 pub mod Allowed
+pub mod Given
+pub mod Samples

@@ -1,4 +1,5 @@
--- Each table is sound and each order has its way back, by computation; a separator is none of the bytes that fields are made of.
+-- Each table is sound and each order has its way back, by computation; a separator is none of the bytes that fields are
+-- made of.
 -- Assumes nothing.
 use mathlib.Core.Path.{_≡_, refl, sym}
 use mathlib.Core.Bool.{true, false, not, _&&_, _||_}
@@ -13,15 +14,15 @@ use Rattle.prelude.proofs.Never.{false-true}
 use Rattle.prelude.proofs.Both.{both-left, both-right}
 use Rattle.digits.specs.Digits.{isDigit}
 use Rattle.line_layouts.specs.declared.Tag.{Tag}
-use Rattle.line_layouts.specs.declared.Tag.the-variants.{Pcr, Hbr, Sbr}
+use Rattle.line_layouts.specs.declared.Tag.the-variants.{Pcr, Hbr, Sbr, Wir, Wrr}
 use Rattle.line_layouts.specs.declared.Form.{Form}
-use Rattle.line_layouts.specs.declared.Form.the-variants.{U1, U2, U4, C1, Cn}
+use Rattle.line_layouts.specs.declared.Form.the-variants.{U1, U2, U4, Time, C1, Cn}
 use Rattle.line_layouts.specs.declared.Flag.{Flag}
 use Rattle.line_layouts.specs.declared.Column.{Column}
 use Rattle.line_layouts.specs.Arranging.{Turned}
-use Rattle.line_layouts.specs.Columns.{separator, columns, bar, order, back}
+use Rattle.line_layouts.specs.Columns.{separator, columns, bar, order, back, mostTime}
 use Rattle.line_layouts.specs.Layouts.{missingValue, isName}
-use Rattle.line_layouts.specs.Names.{separates}
+use Rattle.line_layouts.specs.Names.{isCapital, separates}
 use Rattle.line_layouts.specs.Fitting.{isNumber, hasFlag, isOwn, isBeside, countSound, formSound, columnSound}
 use Rattle.line_layouts.specs.Fitting.{tableSound}
 
@@ -29,12 +30,16 @@ pub sound : (tag : Tag) → tableSound (bar tag) (columns tag) ≡ true
 sound Pcr = refl
 sound Hbr = refl
 sound Sbr = refl
+sound Wir = refl
+sound Wrr = refl
 
 -- text goes in an order of the columns, and `back` is the way back from it
 pub turned : (tag : Tag) → Turned (length (columns tag)) (order tag) (back tag)
 turned Pcr = record { order-all = refl; order-in = refl; back-all = refl; back-in = refl; again = refl }
 turned Hbr = record { order-all = refl; order-in = refl; back-all = refl; back-in = refl; again = refl }
 turned Sbr = record { order-all = refl; order-in = refl; back-all = refl; back-in = refl; again = refl }
+turned Wir = record { order-all = refl; order-in = refl; back-all = refl; back-in = refl; again = refl }
+turned Wrr = record { order-all = refl; order-in = refl; back-all = refl; back-in = refl; again = refl }
 
 -- ---- what soundness says of a column
 
@@ -72,6 +77,9 @@ sane-form U2 most flag e =
     (omega arith, (λ f. false-true (sym f)), (λ f g. false-true (sym f)), (λ f. false-true (sym f)))
 sane-form U4 most flag e =
     let few = count-sound (missingValue U4) most flag e .range in
+    (omega arith, (λ f. false-true (sym f)), (λ f g. false-true (sym f)), (λ f. false-true (sym f)))
+sane-form Time most flag e =
+    let few = leb-true most mostTime (both-left (leb most mostTime) (isOwn flag) e) in
     (omega arith, (λ f. false-true (sym f)), (λ f g. false-true (sym f)), (λ f. false-true (sym f)))
 sane-form C1 most flag e =
     let is = eqb-true most 1 (both-left (eqb most 1) (isOwn flag) e) in
@@ -122,21 +130,25 @@ bar-separates = refl
 
 pub record Apart (sep : ℕ) : Type 0 where
   pub digit : isDigit sep ≡ false
-  pub pass : eqb sep (code "P") ≡ false
-  pub fail : eqb sep (code "F") ≡ false
+  pub capital : isCapital sep ≡ false
+  pub colon : eqb sep (code ":") ≡ false
+  pub minus : eqb sep (code "-") ≡ false
   pub low : 33 ≤ sep
 
 pub apart : (sep : ℕ) → separates sep ≡ true → Apart sep
 unfolding separates
 apart sep e =
     let seen = leb 33 sep && leb sep 126 in
-    let f = not (eqb sep (code "F")) && seen in
-    let p = not (eqb sep (code "P")) && f in
-    let letters = both-right (not (isDigit sep)) p e in
-    let more = both-right (not (eqb sep (code "P"))) f letters in
+    let m = not (eqb sep (code "-")) && seen in
+    let c = not (eqb sep (code ":")) && m in
+    let a = not (isCapital sep) && c in
+    let capitals = both-right (not (isDigit sep)) a e in
+    let marks = both-right (not (isCapital sep)) c capitals in
+    let more = both-right (not (eqb sep (code ":"))) m marks in
     record {
-      digit = not-true (isDigit sep) (both-left (not (isDigit sep)) p e);
-      pass = not-true (eqb sep (code "P")) (both-left (not (eqb sep (code "P"))) f letters);
-      fail = not-true (eqb sep (code "F")) (both-left (not (eqb sep (code "F"))) seen more);
-      low = leb-true 33 sep (both-left (leb 33 sep) (leb sep 126) (both-right (not (eqb sep (code "F"))) seen more));
+      digit = not-true (isDigit sep) (both-left (not (isDigit sep)) a e);
+      capital = not-true (isCapital sep) (both-left (not (isCapital sep)) c capitals);
+      colon = not-true (eqb sep (code ":")) (both-left (not (eqb sep (code ":"))) m marks);
+      minus = not-true (eqb sep (code "-")) (both-left (not (eqb sep (code "-"))) seen more);
+      low = leb-true 33 sep (both-left (leb 33 sep) (leb sep 126) (both-right (not (eqb sep (code "-"))) seen more));
     }

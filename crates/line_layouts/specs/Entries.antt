@@ -1,4 +1,4 @@
--- What a count line or record says, field by field. Document 01, "Count lines", and "Record frame and kinds", optional
+-- What a line or a record says, field by field. Document 01, "Count lines", and "Record frame and kinds", optional
 -- fields: each a value or missing.
 --
 --   Entry     what one field says
@@ -11,7 +11,7 @@ use mathlib.Core.Path.{_≡_}
 use mathlib.Core.Bool.{Bool, true, false}
 use mathlib.Core.List.{List, [], _∷_, _++_, map}
 use Prim.Native.Nat.{ℕ, zero, suc, _+_, _-_, _≤_, _<_}
-use lib.ListN.{length, getD, take, drop}
+use lib.ListN.{length, getD, take, drop, replicate}
 use Rattle.output.specs.Placed.{part}
 use Rattle.values.specs.declared.Name.{Name}
 use Rattle.line_layouts.specs.declared.Tag.{Tag}
@@ -19,9 +19,9 @@ use Rattle.line_layouts.specs.declared.Said.{Said}
 use Rattle.line_layouts.specs.declared.Said.the-variants as said
 use Rattle.line_layouts.specs.declared.Field.{Field}
 use Rattle.line_layouts.specs.declared.Line.{Line}
-use Rattle.line_layouts.specs.Columns.{columns}
+use Rattle.line_layouts.specs.Columns.{columns, mostColumns}
 
--- an optional field is a number or missing; P/F and a name are text
+-- an optional field is a number or missing, a time is a number of seconds; P/F and a name are text
 pub data Entry : Type 0 where
   Missing : Entry
   Number : ℕ → Entry
@@ -57,15 +57,15 @@ noField = record { said = said.Missing }
 
 -- as many fields as the longest table has columns
 abbrev pub noFields : List Field
-noFields = noField ∷ noField ∷ noField ∷ noField ∷ noField ∷ noField ∷ noField ∷ []
+noFields = replicate mostColumns noField
 
 -- fields past a table's columns are missing
 abbrev pub padded : List Field → List Field
 padded fields = fields ++ drop (length fields) noFields
 
--- seven fields; a name has at most 255 bytes, and all of them stand in the source
+-- so many fields; a name has at most 255 bytes, and all of them stand in the source
 pub record AllWithin (source : List ℕ) (line : Line) : Type 0 where
-  pub seven : length (line .fields) ≡ 7
+  pub full : length (line .fields) ≡ mostColumns
   pub within : (j : ℕ) → Within source (getD (line .fields) j noField .said)
 
 -- field number j is one of the n that are laid out

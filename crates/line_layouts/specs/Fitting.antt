@@ -1,10 +1,11 @@
 -- What the fields of a line or of a record can say. Document 01, "Count lines", head and site, numbers in range, P/F,
--- names; and "Record frame and kinds", optional fields.
+-- names; and "Record frame and kinds", optional fields. #103, times.
 --
 --   entryFits    whether a field can say an entry
 --   entriesFit   one entry for each column, each in it
 --   sits         a field that is missing only with the one before it: head and site
 --   Fitting      what a meaning is
+--   allGiven     whether nothing is missing that a line must give; OnlyTimes: it is a time that is missing
 --   tableSound   what is asked of a table, and tested of each by computation
 -- Assumes nothing.
 use mathlib.Core.Path.{_≡_}
@@ -15,19 +16,21 @@ use Prim.Native.Char.{code}
 use lib.Dec.{eqb, leb, ltb}
 use lib.ListN.{length}
 use Rattle.numbers.specs.Numbers.{past}
+use Rattle.line_layouts.specs.declared.Tag.{Tag}
 use Rattle.line_layouts.specs.declared.Form.{Form}
-use Rattle.line_layouts.specs.declared.Form.the-variants.{U1, U2, U4, C1, Cn}
+use Rattle.line_layouts.specs.declared.Form.the-variants.{U1, U2, U4, Time, C1, Cn}
 use Rattle.line_layouts.specs.declared.Flag.{Flag}
 use Rattle.line_layouts.specs.declared.Flag.the-variants.{Never, Own, Beside}
 use Rattle.line_layouts.specs.declared.Column.{Column}
-use Rattle.line_layouts.specs.Columns.{columns, width}
+use Rattle.line_layouts.specs.Columns.{columns, mostTime}
 use Rattle.line_layouts.specs.Entries.{Entry, Missing, Number, Text, Meaning}
-use Rattle.line_layouts.specs.Layouts.{missingValue, isName}
+use Rattle.line_layouts.specs.Layouts.{isTime, missingValue, isName}
 
 abbrev pub isNumber : Form → Bool
 isNumber U1 = true
 isNumber U2 = true
 isNumber U4 = true
+isNumber Time = true
 isNumber C1 = false
 isNumber Cn = false
 
@@ -46,6 +49,10 @@ isBeside Never = false
 isBeside Own = false
 isBeside Beside = true
 
+-- Missing: the value that stands for it, where the field has such a value
+abbrev pub isFlag : Form → Flag → ℕ → Bool
+isFlag form flag n = isOwn flag && eqb n (missingValue form)
+
 -- P/F is P or F, by its first character
 abbrev pub isLetter : ℕ → Bool
 isLetter b = eqb b (code "P") || eqb b (code "F")
@@ -54,10 +61,10 @@ abbrev pub letterFits : List ℕ → Bool
 letterFits [] = false
 letterFits (b ∷ bs) = isLetter b
 
--- a number in range, or text of one byte up to what is kept
+-- a number in range that does not say that the field is missing, or text of one byte up to what is kept
 abbrev pub formFits : Form → ℕ → Flag → Entry → Bool
 formFits form most flag Missing = hasFlag flag
-formFits form most flag (Number n) = isNumber form && leb n most
+formFits form most flag (Number n) = isNumber form && (leb n most && not (isFlag form flag n))
 formFits form most flag (Text []) = false
 formFits form most flag (Text (b ∷ bs)) =
     not (isNumber form) && (leb (length (b ∷ bs)) most && (isName form || letterFits (b ∷ bs)))
@@ -93,6 +100,35 @@ abbrev pub Fitting : Meaning → Type 0
 Fitting m =
     (entriesFit (columns (m .tag)) (m .entries) ≡ true) × (sits Missing (columns (m .tag)) (m .entries) ≡ true)
 
+-- ---- what a line must give
+
+abbrev pub given : Column → Entry → Bool
+given c Missing = not (c .2)
+given c (Number n) = true
+given c (Text bytes) = true
+
+-- nothing is missing that a line must give
+abbrev pub allGiven : List Column → List Entry → Bool
+allGiven [] es = true
+allGiven (c ∷ cs) [] = true
+allGiven (c ∷ cs) (e ∷ es) = given c e && allGiven cs es
+
+-- #103, 21: a required time is 0, which is missing
+abbrev pub timed : Column → Entry → Bool
+timed c Missing = not (c .2 && isTime (c .0))
+timed c (Number n) = true
+timed c (Text bytes) = true
+
+abbrev pub allTimed : List Column → List Entry → Bool
+allTimed [] es = true
+allTimed (c ∷ cs) [] = true
+allTimed (c ∷ cs) (e ∷ es) = timed c e && allTimed cs es
+
+-- what is shown: of what fits, nothing that a line must give can be missing but a time
+abbrev pub OnlyTimes : Type 0
+OnlyTimes = (tag : Tag) (es : List Entry) → entriesFit (columns tag) es ≡ true
+    → allGiven (columns tag) es ≡ allTimed (columns tag) es
+
 -- ---- what is asked of a table
 
 -- all ones are the greatest number of a width: past the range where they say that a field is missing, and in it where
@@ -101,11 +137,12 @@ abbrev pub countSound : ℕ → ℕ → Flag → Bool
 countSound ones most flag =
     leb most ones && (not (isOwn flag && leb ones most) && (not (isBeside flag) || leb ones most))
 
--- text is short enough for a count byte, P/F one byte
+-- a time has 0 to say that it is missing; text is short enough for a count byte, P/F one byte
 abbrev pub formSound : Form → ℕ → Flag → Bool
 formSound U1 most flag = countSound (missingValue U1) most flag
 formSound U2 most flag = countSound (missingValue U2) most flag
 formSound U4 most flag = countSound (missingValue U4) most flag
+formSound Time most flag = leb most mostTime && isOwn flag
 formSound C1 most flag = eqb most 1 && isOwn flag
 formSound Cn most flag = (leb 1 most && leb most 255) && isOwn flag
 

@@ -16,30 +16,44 @@ use lib.ListN.{length, getD, drop, take}
 use Rattle.numbers.specs.declared.Order.{Order}
 use Rattle.numbers.specs.Numbers.{written}
 use Rattle.digits.specs.Digits.{digits}
+use Rattle.dates.specs.Dates.{dateText}
 use Rattle.line_layouts.specs.declared.Tag.{Tag}
 use Rattle.line_layouts.specs.declared.Form.{Form}
-use Rattle.line_layouts.specs.declared.Form.the-variants.{U1, U2, U4, C1, Cn}
+use Rattle.line_layouts.specs.declared.Form.the-variants.{U1, U2, U4, Time, C1, Cn}
 use Rattle.line_layouts.specs.declared.Column.{Column}
 use Rattle.line_layouts.specs.declared.Layout.{Layout}
 use Rattle.line_layouts.specs.declared.Layout.the-variants as layout
 use Rattle.line_layouts.specs.declared.Line.{Line}
 use Rattle.line_layouts.specs.Arranging.{arranged}
-use Rattle.line_layouts.specs.Columns.{separator, lineFeed, tagText, countType, subOf, columns, noColumn, width}
-use Rattle.line_layouts.specs.Columns.{bar, order}
+use Rattle.line_layouts.specs.Columns.{separator, lineFeed, tagText, typeOf, subOf, columns, noColumn}
+use Rattle.line_layouts.specs.Columns.{width, bar, order}
 use Rattle.line_layouts.specs.Entries.{Entry, Missing, Number, Text, Meaning, entryOf, entriesOf, noField}
 use Rattle.line_layouts.specs.Entries.{AllWithin, present}
 
--- decimal without leading zeros, a missing field empty
-abbrev pub entryText : Entry → List ℕ
-entryText Missing = []
-entryText (Number n) = digits n
-entryText (Text bytes) = bytes
+abbrev pub isTime : Form → Bool
+isTime U1 = false
+isTime U2 = false
+isTime U4 = false
+isTime Time = true
+isTime C1 = false
+isTime Cn = false
 
--- Missing: a number of all ones; P/F a space; name of length 0
+-- decimal without leading zeros; #103, a time is a date
+abbrev pub numberText : Form → ℕ → List ℕ
+numberText form n = cond (isTime form) (dateText n) (digits n)
+
+-- a missing field is empty
+abbrev pub entryText : Form → Entry → List ℕ
+entryText form Missing = []
+entryText form (Number n) = numberText form n
+entryText form (Text bytes) = bytes
+
+-- Missing: a number of all ones; P/F a space; name of length 0; #103, time 0
 abbrev pub missingValue : Form → ℕ
 missingValue U1 = 255
 missingValue U2 = 65_535
 missingValue U4 = 4_294_967_295
+missingValue Time = 0
 missingValue C1 = code " "
 missingValue Cn = 0
 
@@ -47,6 +61,7 @@ abbrev pub isName : Form → Bool
 isName U1 = false
 isName U2 = false
 isName U4 = false
+isName Time = false
 isName C1 = false
 isName Cn = true
 
@@ -66,11 +81,11 @@ stored ends form (Text bytes) = counted ends form bytes
 abbrev pub mark : ℕ → Bool → ℕ
 mark sep last = cond last lineFeed sep
 
-abbrev pub marked : ℕ → Entry → Bool → List ℕ
-marked sep e last = entryText e ++ mark sep last ∷ []
+abbrev pub marked : ℕ → Form → Entry → Bool → List ℕ
+marked sep form e last = entryText form e ++ mark sep last ∷ []
 
 abbrev pub fieldBytes : Layout → Form → Entry → Bool → List ℕ
-fieldBytes (layout.Text sep) form e last = marked sep e last
+fieldBytes (layout.Text sep) form e last = marked sep form e last
 fieldBytes (layout.Record ends) form e last = stored ends form e
 
 abbrev pub isLast : List Entry → Bool
@@ -98,10 +113,10 @@ fieldsOf layout m =
     laid layout (inOrder layout (m .tag) noColumn (columns (m .tag)))
     (present (barIn layout (m .tag)) (inOrder layout (m .tag) Missing (m .entries)))
 
--- `PCR:`, `HBR:`, `SBR:` before a line's fields; REC_LEN, REC_TYP, REC_SUB before a record's
+-- `PCR:` and so on before a line's fields; REC_LEN, REC_TYP, REC_SUB before a record's
 abbrev pub headOf : Layout → Tag → ℕ → List ℕ
 headOf (layout.Text sep) tag length = tagText tag
-headOf (layout.Record ends) tag length = written ends 2 length ++ countType ∷ subOf tag ∷ []
+headOf (layout.Record ends) tag length = written ends 2 length ++ typeOf tag ∷ subOf tag ∷ []
 
 abbrev pub laidOut : Layout → Meaning → List ℕ
 laidOut layout m = headOf layout (m .tag) (length (fieldsOf layout m)) ++ fieldsOf layout m

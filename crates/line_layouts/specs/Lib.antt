@@ -5,3 +5,4 @@ pub mod Names
 pub mod Layouts
 pub mod Fitting
 pub mod Judging
+pub mod Samples

@@ -22,7 +22,11 @@ entryAllowed sep Missing = true
 entryAllowed sep (Number n) = true
 entryAllowed sep (Text bytes) = each (allowed sep) bytes
 
--- a byte that can be told from digits and from P and F, and that neither is a space nor ends a line
+abbrev pub isCapital : ℕ → Bool
+isCapital b = leb (code "A") b && leb b (code "Z")
+
+-- a byte that can be told from those of numbers, P/F and dates, and that neither is a space nor ends a line
 unfoldable pub separates : ℕ → Bool
 separates b =
-    not (isDigit b) && (not (eqb b (code "P")) && (not (eqb b (code "F")) && (leb 33 b && leb b 126)))
+    not (isDigit b)
+    && (not (isCapital b) && (not (eqb b (code ":")) && (not (eqb b (code "-")) && (leb 33 b && leb b 126))))

@@ -9,6 +9,7 @@ use answers::Answer;
 ghost use mathlib.Core.Path.{_≡_};
 ghost use Prim.Native.Nat.{_<_};
 ghost use lib.ListN.{getD};
+ghost use Rattle.line_layouts.specs.Columns.{mostColumns};
 ghost use Rattle.line_layouts.specs.Entries.{noField, isMissing};
 ghost use Rattle.line_layouts.specs.Judging.{saying, refusing};
 
@@ -29,7 +30,7 @@ pub fn refused_line(answer: Answer) -> Judged
     };
     let line = Line {
         tag: Tag::Pcr,
-        fields: [none, none, none, none, none, none, none],
+        fields: [none; 14],
     };
     Judged {
         fault: Fault::Found(answer),
@@ -38,7 +39,7 @@ pub fn refused_line(answer: Answer) -> Judged
 }
 
 pub fn said_at(line: Line, j: usize) -> Said
-    requires { ⌜ j < 7 ⌝ }
+    requires { ⌜ j < mostColumns ⌝ }
     ensures { λ r. ⌜ r ≡ getD (line .fields) j noField .said ⌝ }
 {
     let fields = line.fields;

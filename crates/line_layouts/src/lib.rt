@@ -1,4 +1,4 @@
-// How count lines and their records are laid out, field after field: document 01, "Count lines".
+// How lines and their records are laid out, field after field: document 01, "Count lines", and #103.
 pub mod columns;
 pub mod forms;
 pub mod judging;
@@ -8,18 +8,21 @@ use answers::Answer;
 use numbers::Order;
 use values::Name;
 
-// The three count lines.
+// The lines that are written and read: three of counts, two of wafers.
 pub enum Tag {
     Pcr,
     Hbr,
     Sbr,
+    Wir,
+    Wrr,
 }
 
-// The type of a field in a record.
+// The type of a field in a record. A time is a number of four bytes there, and in text a date.
 pub enum Form {
     U1,
     U2,
     U4,
+    Time,
     C1,
     Cn,
 }
@@ -50,7 +53,7 @@ pub struct Field {
 // A line or a record, taken apart: fields past the tag's columns are missing.
 pub struct Line {
     pub tag: Tag,
-    pub fields: [Field; 7],
+    pub fields: [Field; 14],
 }
 
 // How fields are laid out: as the text of a line, with a byte between them, or as a record in a byte order.

@@ -2,17 +2,19 @@
 -- its fields does, and its values follow the same rules.
 -- Assumes nothing.
 use mathlib.Core.Path.{_≡_, refl, ap, sym, _∙_}
-use mathlib.Core.Bool.{Bool, true, false, cond, not, _&&_, _||_}
+use mathlib.Core.Bool.{Bool, true, false, cond, _&&_, _||_}
 use mathlib.Core.List.{List, [], _∷_, map}
 use Prim.Native.Nat.{ℕ, zero, suc, _+_, _-_, _≤_, _<_}
 use Prim.Native.Char.{code}
 use native.Mathlib.Omega.{arith}
-use borrow.Author.Tests.{leb-true, leb-false, le-leb, lt-leb, eqb-false}
+use borrow.Author.Tests.{leb-true, leb-false, le-leb, lt-leb, eqb-true, eqb-false}
 use lib.Dec.{eqb, leb}
-use lib.ListN.{length, getD, take, drop, replicate, length-drop, length-take}
-use lib.Seq.{drop-drop, getD-drop, length-take-le}
+use lib.ListN.{length, getD, take, drop, length-drop, length-take}
+use lib.Seq.{drop-drop, drop-nil, getD-drop}
 use Rattle.prelude.specs.Choice.{_unless_then_}
+use Rattle.prelude.specs.Each.{each}
 use Rattle.prelude.proofs.Never.{false-true}
+use Rattle.prelude.proofs.Both.{both-left, both-right}
 use Rattle.numbers.specs.declared.Order.{Order}
 use Rattle.numbers.specs.Numbers.{number, front, past}
 use Rattle.numbers.specs.Laws.{Bytes}
@@ -21,26 +23,26 @@ use Rattle.fields.specs.declared.FieldType.{FieldType}
 use Rattle.fields.specs.declared.FieldType.the-variants as field
 use Rattle.fields.specs.Fields as fields
 use Rattle.fields.specs.Fields.{endsAmong}
-use Rattle.fields.specs.Tables.{fitsBody, pcr, bin}
-use Rattle.values.specs.Values.{passFailFits, binFits}
+use Rattle.fields.specs.Tables.{fitsBody, pcr, bin, wir, wrr}
+use Rattle.values.specs.Values.{passFailFits}
 use Rattle.count_bodies.specs.Counts.{binValuesFit, binBodyFits}
 use Rattle.bodies.specs.declared.Record.{Record}
 use Rattle.bodies.specs.Bodies.{reading, fitting, readBody}
 use Rattle.line_layouts.specs.declared.Tag.the-variants as tag
 use Rattle.line_layouts.specs.declared.Form.{Form}
-use Rattle.line_layouts.specs.declared.Form.the-variants.{U1, U2, U4, C1, Cn}
+use Rattle.line_layouts.specs.declared.Form.the-variants.{U1, U2, U4, Time, C1, Cn}
 use Rattle.line_layouts.specs.declared.Flag.{Flag}
 use Rattle.line_layouts.specs.declared.Flag.the-variants.{Never, Own, Beside}
 use Rattle.line_layouts.specs.declared.Column.{Column}
-use Rattle.line_layouts.specs.Columns.{pcrColumns, binColumns, width}
+use Rattle.line_layouts.specs.Columns.{pcrColumns, binColumns, wirColumns, wrrColumns, width}
 use Rattle.line_layouts.specs.Entries.{Entry, Missing, Number, Text}
 use Rattle.line_layouts.specs.Layouts.{missingValue}
-use Rattle.line_layouts.specs.Fitting.{isNumber, isOwn, isLetter}
-use Rattle.line_records.specs.Walks.{Fit, Fits, Misfit, put, size, isFlag, numberSaid, letterSaid, nameSaid}
+use Rattle.line_layouts.specs.Fitting.{isOwn}
+use Rattle.line_records.specs.Walks.{Fit, Fits, Misfit, put, size, numberSaid, letterSaid, nameSaid}
 use Rattle.line_records.specs.Walks.{valueSaid, fieldSaid, walked, hiding, meantBy}
 use Rattle.line_records.specs.Laws.{isFit, MeantRead}
 use Rattle.line_records.proofs.Records.{walked-on}
-use Rattle.line_records.proofs.Places.{size-number, front-at}
+use Rattle.line_records.proofs.Places.{front-at}
 
 -- ---- readings, one after another
 
@@ -87,12 +89,13 @@ module _ (ends : Order) where
         fit-field c s,
       )
 
-  -- ---- optional fields
+  -- ---- any table: the walk goes as the fit of its fields does, and its values are judged beside it
 
   abbrev typeFor : Form → FieldType
   typeFor U1 = field.U 1
   typeFor U2 = field.U 2
   typeFor U4 = field.U 4
+  typeFor Time = field.U 4
   typeFor C1 = field.C1
   typeFor Cn = field.Cn
 
@@ -101,8 +104,18 @@ module _ (ends : Order) where
   size-is U1 s = refl
   size-is U2 s = refl
   size-is U4 s = refl
+  size-is Time s = refl
   size-is C1 s = refl
   size-is Cn s = refl
+
+  size-some : (form : Form) (s : List ℕ) → 1 ≤ size form s
+  unfolding size
+  size-some U1 s = omega arith
+  size-some U2 s = omega arith
+  size-some U4 s = omega arith
+  size-some Time s = omega arith
+  size-some C1 s = omega arith
+  size-some Cn s = omega arith
 
   abbrev typesFor : List Column → List FieldType
   typesFor cs = map (λ (c : Column). typeFor (c .0)) cs
@@ -132,81 +145,6 @@ module _ (ends : Order) where
       ∙ rw (optional-fit cs rest, size-is (c .0) s)
       (shuffle (leb (size (c .0) s) (length s)) (valueFit c s) (endsAmong ends (typesFor cs) rest) w)
 
-  -- ---- required fields: numbers
-
-  module _ (k : ℕ) (c : Column) (cs : List Column) (number : isNumber (c .0) ≡ true) where
-    required-fit : (s : List ℕ)
-        → isFit (walked (suc k) ends (c ∷ cs) s)
-        ≡ (leb (width (c .0)) (length s) && (valueFit c s && isFit (walked k ends cs (drop (width (c .0)) s))))
-    unfolding walked
-    required-fit [] = rw (lt-leb (width (c .0)) 0 (some (c .0) number))
-      where
-        some : (form : Form) → isNumber form ≡ true → 0 < width form
-        some U1 e = omega arith
-        some U2 e = omega arith
-        some U4 e = omega arith
-        some C1 e = false-true e
-        some Cn e = false-true e
-    required-fit (b ∷ bs) =
-        let s = b ∷ bs in
-        let less : suc k - 1 ≡ k = omega arith in
-        fit-on (suc k) c cs s (omega arith)
-        ∙ rw (size-number (c .0) s number, less)
-        (go (leb (width (c .0)) (length s)) (isFit (valueSaid ends (c .0) (c .1) (c .3) (take (width (c .0)) s)))
-        (isFit (walked k ends cs (drop (width (c .0)) s))))
-      where
-        go : (l v w : Bool) → ((l && v) && w) ≡ (l && (v && w))
-        go true v w = refl
-        go false v w = refl
-
-  -- ---- values that are never a misfit
-
-  own-fit : (form : Form) (most n : ℕ) → n ≤ missingValue form → suc most ≡ missingValue form
-      → isFit (numberSaid form most Own n) ≡ true
-  own-fit form most n h e = go (eqb n (missingValue form)) refl
-    where
-      go : (t : Bool) → eqb n (missingValue form) ≡ t → isFit (numberSaid form most Own n) ≡ true
-      go true f = rw f
-      go false f = rw (f, le-leb n most (below (leb n most) refl))
-        where
-          below : (t : Bool) → leb n most ≡ t → n ≤ most
-          below true g = leb-true n most g
-          below false g = absurd (eqb-false n (missingValue form) f (omega (arith, leb-false n most g)))
-
-  other-fit : (form : Form) (most : ℕ) (flag : Flag) (n : ℕ) → isOwn flag ≡ false → n ≤ most
-      → isFit (numberSaid form most flag n) ≡ true
-  other-fit form most flag n f h = rw (f, le-leb n most h)
-
-  number-low : (w : ℕ) (s : List ℕ) → Bytes s → w ≤ length s → number ends (take w s) < past w
-  number-low w s bytes h =
-      rw (length-take-le w s h) at (number-below ends (take w s) (part-bytes s 0 w bytes))
-
-  -- a required number whose values all fit
-  module _ (k : ℕ) (c : Column) (cs : List Column) (number : isNumber (c .0) ≡ true) where
-    total-fit : (s : List ℕ) → (width (c .0) ≤ length s → valueFit c s ≡ true)
-        → isFit (walked (suc k) ends (c ∷ cs) s)
-        ≡ (leb (width (c .0)) (length s) && isFit (walked k ends cs (drop (width (c .0)) s)))
-    total-fit s all = required-fit k c cs number s ∙ go (leb (width (c .0)) (length s)) refl
-      where
-        go : (t : Bool) → leb (width (c .0)) (length s) ≡ t
-            → (leb (width (c .0)) (length s) && (valueFit c s && isFit (walked k ends cs (drop (width (c .0)) s))))
-            ≡ (leb (width (c .0)) (length s) && isFit (walked k ends cs (drop (width (c .0)) s)))
-        go true f = rw (f, all (leb-true (width (c .0)) (length s) f))
-        go false f = rw f
-
-  head-fit : (s : List ℕ) → Bytes s → 1 ≤ length s → valueFit (U1, 254, false, Own) s ≡ true
-  unfolding valueSaid size
-  head-fit s bytes h = own-fit U1 254 (number ends (take 1 s)) (omega (arith, number-low 1 s bytes h)) refl
-
-  site-fit : (s : List ℕ) → Bytes s → 1 ≤ length s → valueFit (U1, 255, false, Beside) s ≡ true
-  unfolding valueSaid size
-  site-fit s bytes h = other-fit U1 255 Beside (number ends (take 1 s)) refl (omega (arith, number-low 1 s bytes h))
-
-  count-fit : (s : List ℕ) → Bytes s → 4 ≤ length s → valueFit (U4, 4_294_967_295, true, Never) s ≡ true
-  unfolding valueSaid size
-  count-fit s bytes h =
-      other-fit U4 4_294_967_295 Never (number ends (take 4 s)) refl (omega (arith, number-low 4 s bytes h))
-
   -- bytes for one field, then for the next
   fold : (w m : ℕ) (s : List ℕ) (t : Bool)
       → (leb w (length s) && (leb m (length (drop w s)) && t)) ≡ (leb (w + m) (length s) && t)
@@ -227,58 +165,139 @@ module _ (ends : Order) where
           rw (e, f, lt-leb m (length (drop w s)) (omega (arith, length-drop w s)))
       go false e false f = rw (e, f)
 
-  -- ---- PCR
+  table-fit : (k : ℕ) (cs : List Column) (s : List ℕ)
+      → isFit (walked k ends cs s)
+      ≡ (fields.fits ends (typesFor (take k cs)) (typesFor (drop k cs)) s && valuesFit cs s)
+  unfolding walked
+  table-fit zero cs s = rw (le-leb 0 (length s) (omega arith)) (optional-fit cs s)
+  table-fit (suc k) [] [] = refl
+  table-fit (suc k) [] (b ∷ bs) = rw (le-leb 0 (length (b ∷ bs)) (omega arith))
+  table-fit (suc k) (c ∷ cs) [] =
+      let w = fields.size ends (typeFor (c .0)) [] in
+      let m = fields.sizes ends (typesFor (take k cs)) (drop w []) in
+      rw (lt-leb (w + m) 0 (omega (arith, size-is (c .0) [], size-some (c .0) [])))
+  table-fit (suc k) (c ∷ cs) (b ∷ bs) =
+      let s = b ∷ bs in
+      let w = size (c .0) s in
+      let rest = drop w s in
+      let m = fields.sizes ends (typesFor (take k cs)) rest in
+      let e = endsAmong ends (typesFor (drop k cs)) (drop m rest) in
+      let less : suc k - 1 ≡ k = omega arith in
+      fit-on (suc k) c cs s (omega arith)
+      ∙ rw (less, table-fit k cs rest, size-is (c .0) s)
+      (shuffle (leb w (length s)) (valueFit c s) (leb m (length rest) && e) (valuesFit cs rest)
+      ∙ ap (λ (x : Bool). x && (valueFit c s && valuesFit cs rest))
+      (fold w m s e ∙ ap (λ (l : List ℕ). leb (w + m) (length s) && endsAmong ends (typesFor (drop k cs)) l)
+      (drop-drop m w s)))
 
-  abbrev optional : Column
-  optional = (U4, 4_294_967_294, false, Own)
+  -- ---- columns whose every value fits: numbers to the greatest of their width, but for a missing value just past
+  -- them, and names as long as a count byte tells
 
-  optional-value : (s : List ℕ) → Bytes s → 4 ≤ length s → valueFit optional s ≡ true
-  unfolding valueSaid size
-  optional-value s bytes h =
-      own-fit U4 4_294_967_294 (number ends (take 4 s)) (omega (arith, number-low 4 s bytes h)) refl
+  abbrev greatest : Form → ℕ → Flag → ℕ
+  greatest form most flag = cond (isOwn flag && eqb (missingValue form) (suc most)) (suc most) most
 
-  -- the walk over counts that may be missing: where it ends well, their values fit
-  counts-fit : (n : ℕ) (s : List ℕ) → Bytes s
-      → (endsAmong ends (typesFor (replicate n optional)) s && valuesFit (replicate n optional) s)
-      ≡ endsAmong ends (typesFor (replicate n optional)) s
-  unfolding size
-  counts-fit zero [] bytes = refl
-  counts-fit zero (b ∷ bs) bytes = refl
-  counts-fit (suc n) [] bytes = refl
-  counts-fit (suc n) (b ∷ bs) bytes =
-      go (counts-fit n (drop 4 (b ∷ bs)) (bytes-drop 4 (b ∷ bs) bytes)) (leb 4 (length (b ∷ bs))) refl
+  abbrev anyNumber : Form → ℕ → Flag → Bool
+  anyNumber form most flag = leb (past (width form)) (suc (greatest form most flag))
+
+  any-number : (form : Form) (most : ℕ) (flag : Flag) (n : ℕ) → anyNumber form most flag ≡ true
+      → n < past (width form) → isFit (numberSaid form most flag n) ≡ true
+  any-number form most flag n all low =
+      go (isOwn flag) refl (eqb (missingValue form) (suc most)) refl (eqb n (missingValue form)) refl
     where
-      go : (endsAmong ends (typesFor (replicate n optional)) (drop 4 (b ∷ bs))
-          && valuesFit (replicate n optional) (drop 4 (b ∷ bs)))
-          ≡ endsAmong ends (typesFor (replicate n optional)) (drop 4 (b ∷ bs))
-          → (t : Bool) → leb 4 (length (b ∷ bs)) ≡ t
-          → (endsAmong ends (typesFor (replicate (suc n) optional)) (b ∷ bs)
-          && valuesFit (replicate (suc n) optional) (b ∷ bs))
-          ≡ endsAmong ends (typesFor (replicate (suc n) optional)) (b ∷ bs)
-      go more true e = rw (e, optional-value (b ∷ bs) bytes (leb-true 4 (length (b ∷ bs)) e)) more
-      go more false e = rw e
+      high : past (width form) ≤ suc (greatest form most flag)
+      high = leb-true (past (width form)) (suc (greatest form most flag)) all
 
-  pcr-fit : (b : List ℕ) → Bytes b → isFit (walked 3 ends pcrColumns b) ≡ fitsBody ends pcr b
-  pcr-fit b bytes =
-      let b1 = drop 1 b in
-      let b2 = drop 1 b1 in
-      let rest = drop 4 b2 in
-      let bytes1 = bytes-drop 1 b bytes in
-      let bytes2 = bytes-drop 1 b1 bytes1 in
-      let t = isFit (walked 0 ends (drop 3 pcrColumns) rest) in
-      let place : rest ≡ drop 6 b = rw (drop-drop 1 1 b, drop-drop 4 2 b) in
-      total-fit 2 (U1, 254, false, Own) (drop 1 pcrColumns) refl b (head-fit b bytes)
-      ∙ ap (λ (x : Bool). leb 1 (length b) && x)
-      (total-fit 1 (U1, 255, false, Beside) (drop 2 pcrColumns) refl b1 (site-fit b1 bytes1))
-      ∙ ap (λ (x : Bool). leb 1 (length b) && (leb 1 (length b1) && x))
-      (total-fit 0 (U4, 4_294_967_295, true, Never) (drop 3 pcrColumns) refl b2 (count-fit b2 bytes2))
-      ∙ ap (λ (x : Bool). leb 1 (length b) && x) (fold 1 4 b1 t)
-      ∙ fold 1 5 b t
-      ∙ ap (λ (x : Bool). leb 6 (length b) && x)
-      (optional-fit (drop 3 pcrColumns) rest ∙ counts-fit 4 rest (bytes-drop 4 b2 bytes2)
-      ∙ ap (endsAmong ends (typesFor (drop 3 pcrColumns))) place)
+      go : (o : Bool) → isOwn flag ≡ o → (p : Bool) → eqb (missingValue form) (suc most) ≡ p
+          → (q : Bool) → eqb n (missingValue form) ≡ q → isFit (numberSaid form most flag n) ≡ true
+      go false e p f q g =
+          let top : past (width form) ≤ suc most = rw e at high in
+          rw (e, le-leb n most (omega arith))
+      go true e p f true g = rw (e, g)
+      go true e true f false g =
+          let top : past (width form) ≤ suc (suc most) = rw (e, f) at high in
+          let next = eqb-true (missingValue form) (suc most) f in
+          rw (e, g, le-leb n most (omega (arith, eqb-false n (missingValue form) g)))
+      go true e false f false g =
+          let top : past (width form) ≤ suc most = rw (e, f) at high in
+          rw (e, g, le-leb n most (omega arith))
 
-  -- ---- HBR and SBR
+  past-some : (w : ℕ) → 1 ≤ past w
+  past-some zero = omega arith
+  past-some (suc w) = omega (arith, past-some w)
+
+  past-more : (v w : ℕ) → v ≤ w → past v ≤ past w
+  past-more zero w h = past-some w
+  past-more (suc v) zero h = absurd (omega arith)
+  past-more (suc v) (suc w) h = omega (arith, past-more v w (omega arith))
+
+  number-low : (w : ℕ) (s : List ℕ) → Bytes s → number ends (take w s) < past w
+  number-low w s bytes =
+      let few = past-more (length (take w s)) w (omega (arith, length-take w s)) in
+      omega (arith, number-below ends (take w s) (part-bytes s 0 w bytes))
+
+  name-fit : (most : ℕ) (s : List ℕ) → length s ≤ most → isFit (nameSaid most s) ≡ true
+  name-fit most [] h = refl
+  name-fit most (b ∷ bs) h = rw (le-leb (length (b ∷ bs)) most h)
+
+  abbrev anyFits : Form → ℕ → Flag → Bool
+  anyFits U1 most flag = anyNumber U1 most flag
+  anyFits U2 most flag = anyNumber U2 most flag
+  anyFits U4 most flag = anyNumber U4 most flag
+  anyFits Time most flag = anyNumber Time most flag
+  anyFits C1 most flag = false
+  anyFits Cn most flag = leb 255 most
+
+  any-fit : (form : Form) (most : ℕ) (flag : Flag) (s : List ℕ) → Bytes s → anyFits form most flag ≡ true
+      → isFit (valueSaid ends form most flag (take (size form s) s)) ≡ true
+  unfolding valueSaid size
+  any-fit U1 most flag s bytes all = any-number U1 most flag (number ends (take 1 s)) all (number-low 1 s bytes)
+  any-fit U2 most flag s bytes all = any-number U2 most flag (number ends (take 2 s)) all (number-low 2 s bytes)
+  any-fit U4 most flag s bytes all = any-number U4 most flag (number ends (take 4 s)) all (number-low 4 s bytes)
+  any-fit Time most flag s bytes all = any-number Time most flag (number ends (take 4 s)) all (number-low 4 s bytes)
+  any-fit C1 most flag s bytes all = false-true all
+  any-fit Cn most flag s bytes all =
+      let n = getD s 0 0 in
+      name-fit most (drop 1 (take (1 + n) s))
+      (omega (
+        arith,
+        bytes 0,
+        leb-true 255 most all,
+        length-drop 1 (take (1 + n) s),
+        length-take (1 + n) s,
+      ))
+
+  abbrev anyIn : Column → Bool
+  anyIn c = anyFits (c .0) (c .1) (c .3)
+
+  values-none : (cs : List Column) → valuesFit cs [] ≡ true
+  values-none [] = refl
+  values-none (c ∷ cs) = refl
+
+  values-any : (c : Column) (cs : List Column) (s : List ℕ) → Bytes s → anyIn c ≡ true
+      → valuesFit (c ∷ cs) s ≡ valuesFit cs (drop (size (c .0) s) s)
+  values-any c cs [] bytes all =
+      rw (drop-nil (size (c .0) [])) (sym (values-none cs))
+  values-any c cs (b ∷ bs) bytes all = rw (any-fit (c .0) (c .1) (c .3) (b ∷ bs) bytes all)
+
+  all-any : (cs : List Column) (s : List ℕ) → Bytes s → each anyIn cs ≡ true → valuesFit cs s ≡ true
+  all-any [] s bytes all = refl
+  all-any (c ∷ cs) s bytes all =
+      values-any c cs s bytes (both-left (anyIn c) (each anyIn cs) all)
+      ∙ all-any cs (drop (size (c .0) s) s) (bytes-drop (size (c .0) s) s bytes)
+      (both-right (anyIn c) (each anyIn cs) all)
+
+  and-true : (t : Bool) → (t && true) ≡ t
+  and-true true = refl
+  and-true false = refl
+
+  -- .. so a table of them has no value rule
+  any-table : (k : ℕ) (cs : List Column) (s : List ℕ) → Bytes s → each anyIn cs ≡ true
+      → isFit (walked k ends cs s) ≡ fields.fits ends (typesFor (take k cs)) (typesFor (drop k cs)) s
+  any-table k cs s bytes all =
+      table-fit k cs s
+      ∙ rw (all-any cs s bytes all) (and-true (fields.fits ends (typesFor (take k cs)) (typesFor (drop k cs)) s))
+
+  -- ---- HBR and SBR: bin and P/F have a rule
 
   letter-fit : (y : ℕ) → isFit (letterSaid y) ≡ (eqb y (code "P") || (eqb y (code "F") || eqb y (code " ")))
   letter-fit y = go (eqb y (code " ")) (eqb y (code "P")) (eqb y (code "F"))
@@ -292,18 +311,6 @@ module _ (ends : Order) where
       go false false true = refl
       go false false false = refl
 
-  name-fit : (s : List ℕ) → length s ≤ 255 → isFit (nameSaid 255 s) ≡ true
-  name-fit [] h = refl
-  name-fit (b ∷ bs) h = rw (le-leb (length (b ∷ bs)) 255 h)
-
-  names-fit : (s : List ℕ) → Bytes s → valuesFit (drop 5 binColumns) s ≡ true
-  unfolding valueSaid size
-  names-fit [] bytes = refl
-  names-fit (z ∷ zs) bytes =
-      let short : length (drop 1 (take (1 + z) (z ∷ zs))) ≤ 255 =
-      omega (arith, bytes 0, length-drop 1 (take (1 + z) (z ∷ zs)), length-take (1 + z) (z ∷ zs)) in
-      rw (name-fit (drop 1 (take (1 + z) (z ∷ zs))) short)
-
   -- P/F and name, behind the count
   tail-fit : (b r : List ℕ) → Bytes b → drop 8 b ≡ r → valuesFit (drop 4 binColumns) r ≡ passFailFits b 8
   unfolding valueSaid size passFailFits
@@ -314,11 +321,8 @@ module _ (ends : Order) where
       let some : 9 ≤ length b = omega (arith, ap length e, length-drop 8 b) in
       let byte : getD b 8 0 ≡ y = sym (getD-drop 8 b 0 0) ∙ ap (λ (l : List ℕ). getD l 0 0) e in
       let left : Bytes ys = λ i. rw e at (bytes-drop 8 b bytes (suc i)) in
-      rw (le-leb 9 (length b) some, byte, names-fit ys left) (and-true (isFit (letterSaid y)) ∙ letter-fit y)
-    where
-      and-true : (t : Bool) → (t && true) ≡ t
-      and-true true = refl
-      and-true false = refl
+      rw (le-leb 9 (length b) some, byte, all-any (drop 5 binColumns) ys left refl)
+      (and-true (isFit (letterSaid y)) ∙ letter-fit y)
 
   bin-value : (n : ℕ) → isFit (numberSaid U2 32_767 Never n) ≡ leb n 32_767
   bin-value n = go (leb n 32_767)
@@ -327,87 +331,54 @@ module _ (ends : Order) where
       go true = refl
       go false = refl
 
-  bin-fit : (b : List ℕ) → Bytes b → isFit (walked 4 ends binColumns b) ≡ binBodyFits ends b
+  -- a field that is there
+  values-on : (c : Column) (cs : List Column) (s : List ℕ) → 1 ≤ length s
+      → valuesFit (c ∷ cs) s ≡ (valueFit c s && valuesFit cs (drop (size (c .0) s) s))
+  values-on c cs [] h = absurd (omega arith)
+  values-on c cs (b ∷ bs) h = refl
+
+  bin-values : (b : List ℕ) → Bytes b → 8 ≤ length b → valuesFit binColumns b ≡ binValuesFit ends b
   unfolding valueSaid size
-  bin-fit b bytes =
-      total-fit 3 (U1, 254, false, Own) (drop 1 binColumns) refl b (head-fit b bytes)
-      ∙ ap (λ (x : Bool). leb 1 (length b) && x)
-      (total-fit 2 (U1, 255, false, Beside) (drop 2 binColumns) refl b1 (site-fit b1 bytes1))
-      ∙ ap (λ (x : Bool). leb 1 (length b) && (leb 1 (length b1) && x))
-      (required-fit 1 (U2, 32_767, true, Never) (drop 3 binColumns) refl b2
-      ∙ ap (λ (x : Bool). leb 2 (length b2) && (v && x))
-      (total-fit 0 (U4, 4_294_967_295, true, Never) (drop 4 binColumns) refl b4 (count-fit b4 bytes4))
-      ∙ swap (leb 2 (length b2)) v (leb 4 (length b4)) t
-      ∙ fold 2 4 b2 (v && t))
-      ∙ ap (λ (x : Bool). leb 1 (length b) && x) (fold 1 6 b1 (v && t))
-      ∙ fold 1 7 b (v && t)
-      ∙ go (leb 8 (length b)) refl
+  bin-values b bytes all =
+      let b2 = drop 2 b in
+      let b4 = drop 4 b in
+      let number-is : number ends (take 2 b2) ≡ number ends (front 2 2 b) =
+      sym (front-at ends 2 2 b (omega arith)) ∙ ap (number ends) (front-part 2 2 b) in
+      values-any (U1, 254, false, Own) (drop 1 binColumns) b bytes refl
+      ∙ values-any (U1, 255, false, Beside) (drop 2 binColumns) (drop 1 b) (bytes-drop 1 b bytes) refl
+      ∙ ap (valuesFit (drop 2 binColumns)) (drop-drop 1 1 b)
+      ∙ values-on (U2, 32_767, true, Never) (drop 3 binColumns) b2 (omega (arith, length-drop 2 b))
+      ∙ rw (bin-value (number ends (take 2 b2)), number-is, drop-drop 2 2 b)
+      (ap (λ (x : Bool). leb (number ends (front 2 2 b)) 32_767 && x)
+      (values-any (U4, 4_294_967_295, true, Never) (drop 4 binColumns) b4 (bytes-drop 4 b bytes) refl
+      ∙ ap (valuesFit (drop 4 binColumns)) (drop-drop 4 4 b) ∙ tail-fit b (drop 8 b) bytes refl))
+
+  bin-fit : (b : List ℕ) → Bytes b → isFit (walked 4 ends binColumns b) ≡ binBodyFits ends b
+  bin-fit b bytes = table-fit 4 binColumns b ∙ go (fitsBody ends bin b) refl
     where
-      b1 : List ℕ
-      b1 = drop 1 b
-
-      b2 : List ℕ
-      b2 = drop 1 b1
-
-      b4 : List ℕ
-      b4 = drop 2 b2
-
-      rest : List ℕ
-      rest = drop 4 b4
-
-      bytes1 : Bytes b1
-      bytes1 = bytes-drop 1 b bytes
-
-      bytes4 : Bytes b4
-      bytes4 = bytes-drop 2 b2 (bytes-drop 1 b1 bytes1)
-
-      v : Bool
-      v = isFit (numberSaid U2 32_767 Never (number ends (take 2 b2)))
-
-      t : Bool
-      t = isFit (walked 0 ends (drop 4 binColumns) rest)
-
-      swap : (l v m t : Bool) → (l && (v && (m && t))) ≡ (l && (m && (v && t)))
-      swap true true m t = refl
-      swap true false true t = refl
-      swap true false false t = refl
-      swap false v m t = refl
-
-      turn : (v e p : Bool) → (v && (e && p)) ≡ (e && (v && p))
-      turn true true p = refl
-      turn true false p = refl
-      turn false true p = refl
-      turn false false p = refl
-
-      place : rest ≡ drop 8 b
-      place = rw (drop-drop 1 1 b, drop-drop 2 2 b, drop-drop 4 4 b)
-
-      go : (a : Bool) → leb 8 (length b) ≡ a
-          → (leb 8 (length b) && (v && t))
-          ≡ ((leb 8 (length b) && endsAmong ends (bin .optional) (drop 8 b)) && binValuesFit ends b)
+      go : (t : Bool) → fitsBody ends bin b ≡ t
+          → (fitsBody ends bin b && valuesFit binColumns b) ≡ (fitsBody ends bin b && binValuesFit ends b)
       go false e = rw e
       go true e =
-          let all = leb-true 8 (length b) e in
-          let number-is : number ends (take 2 b2) ≡ number ends (front 2 2 b) =
-          rw (drop-drop 1 1 b)
-          (sym (front-at ends 2 2 b (omega arith)) ∙ ap (number ends) (front-part 2 2 b)) in
-          let ended : t ≡ (endsAmong ends (bin .optional) (drop 8 b) && passFailFits b 8) =
-          optional-fit (drop 4 binColumns) rest
-          ∙ rw place (ap (λ (x : Bool). endsAmong ends (bin .optional) (drop 8 b) && x)
-          (tail-fit b (drop 8 b) bytes refl)) in
-          let value : v ≡ leb (number ends (front 2 2 b)) 32_767 =
-          bin-value (number ends (take 2 b2)) ∙ rw number-is in
-          rw (e, ended, value)
-          (turn (leb (number ends (front 2 2 b)) 32_767) (endsAmong ends (bin .optional) (drop 8 b)) (passFailFits b 8))
+          let there = leb-true 8 (length b)
+          (both-left (leb 8 (length b)) (endsAmong ends (bin .optional) (drop 8 b)) e) in
+          rw e (bin-values b bytes there)
 
+-- a kind without a value rule: only its fields are judged
 pub meant-read : MeantRead
 unfolding meantBy readBody
 meant-read ends tag.Pcr b bytes =
-    fit-hiding Missing pcrColumns (walked 3 ends pcrColumns b) ∙ pcr-fit ends b bytes ∙ sym (fitting-by
-    (fitsBody ends pcr b) _)
+    fit-hiding Missing pcrColumns (walked 3 ends pcrColumns b) ∙ any-table ends 3 pcrColumns b bytes refl
+    ∙ sym (fitting-by (fitsBody ends pcr b) _)
 meant-read ends tag.Hbr b bytes =
     fit-hiding Missing binColumns (walked 4 ends binColumns b) ∙ bin-fit ends b bytes ∙ sym (fitting-by
     (binBodyFits ends b) _)
 meant-read ends tag.Sbr b bytes =
     fit-hiding Missing binColumns (walked 4 ends binColumns b) ∙ bin-fit ends b bytes ∙ sym (fitting-by
     (binBodyFits ends b) _)
+meant-read ends tag.Wir b bytes =
+    fit-hiding Missing wirColumns (walked 3 ends wirColumns b) ∙ any-table ends 3 wirColumns b bytes refl
+    ∙ sym (fitting-by (fitsBody ends wir b) _)
+meant-read ends tag.Wrr b bytes =
+    fit-hiding Missing wrrColumns (walked 4 ends wrrColumns b) ∙ any-table ends 4 wrrColumns b bytes refl
+    ∙ sym (fitting-by (fitsBody ends wrr b) _)

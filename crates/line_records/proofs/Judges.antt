@@ -13,7 +13,7 @@ use Rattle.frames.specs.Frames.{recTyp, recSub, body, isRecord}
 use Rattle.line_layouts.specs.declared.Tag.{Tag}
 use Rattle.line_layouts.specs.declared.Field.{Field}
 use Rattle.line_layouts.specs.declared.Column.{Column}
-use Rattle.line_layouts.specs.Columns.{columns, bar, noColumn}
+use Rattle.line_layouts.specs.Columns.{columns, bar, mostColumns, noColumn}
 use Rattle.line_layouts.specs.Entries.{Entry, Meaning, padded}
 use Rattle.line_layouts.specs.Fitting.{isNumber, tableSound}
 use Rattle.line_layouts.specs.Judging.{Faulty, Says, saying, Taken, Held}
@@ -47,25 +47,25 @@ says-record ends s m e = go (isRecord ends s) refl
 
 -- a body that fits: its fields say what it means
 taken-said : (ends : Order) (tag : Tag) (s : List ℕ) (fields : List Field) (n : ℕ) → n ≡ length (columns tag)
-    → length fields ≡ 7 → Withins s fields → meant ends tag s ≡ Fits (map (says s) (take n fields))
+    → length fields ≡ mostColumns → Withins s fields → meant ends tag s ≡ Fits (map (says s) (take n fields))
     → Taken s (bodyMeans tag (meant ends tag s)) (saying (record { tag = tag; fields = fields }))
-taken-said ends tag s fields n all seven within is =
+taken-said ends tag s fields n all full within is =
     let said : take (length (columns tag)) (map (says s) fields) ≡ map (says s) (take n fields) =
     rw (← all) (map-take (says s) n fields) in
     record {
       means = rw is (ap (λ (es : List Entry). Says (record { tag = tag; entries = es })) said);
-      there = λ e. record { seven = seven; within = within };
+      there = λ e. record { full = full; within = within };
     }
 
 -- .. and they are those of the line
 pub held-said : (ends : Order) (tag : Tag) (s : List ℕ) (fields : List Field) (n : ℕ) → n ≡ length (columns tag)
-    → length fields ≡ 7 → Withins s fields → meant ends tag s ≡ Fits (map (says s) (take n fields))
+    → length fields ≡ mostColumns → Withins s fields → meant ends tag s ≡ Fits (map (says s) (take n fields))
     → fields ≡ padded (fieldsFrom ends (columns tag) s 0 true)
     → Held s (lineAt ends tag s) (bodyMeans tag (meant ends tag s)) (saying (record { tag = tag; fields = fields }))
 unfolding lineAt
-held-said ends tag s fields n all seven within is same =
+held-said ends tag s fields n all full within is same =
     record {
-      taken = taken-said ends tag s fields n all seven within is;
+      taken = taken-said ends tag s fields n all full within is;
       is = rw is (ap (λ (l : List Field). saying (record { tag = tag; fields = l })) same);
     }
 

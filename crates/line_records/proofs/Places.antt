@@ -17,7 +17,7 @@ use Rattle.numbers.specs.declared.Order.{Order}
 use Rattle.numbers.specs.declared.Order.the-variants.{HighFirst, LowFirst}
 use Rattle.numbers.specs.Numbers.{number, front}
 use Rattle.line_layouts.specs.declared.Form.{Form}
-use Rattle.line_layouts.specs.declared.Form.the-variants.{U1, U2, U4, C1, Cn}
+use Rattle.line_layouts.specs.declared.Form.the-variants.{U1, U2, U4, Time, C1, Cn}
 use Rattle.line_layouts.specs.declared.Flag.{Flag}
 use Rattle.line_layouts.specs.declared.Column.{Column}
 use Rattle.line_layouts.specs.declared.Said.{Said}
@@ -27,15 +27,15 @@ use Rattle.line_layouts.specs.Columns.{noColumn, width}
 use Rattle.line_layouts.specs.Entries.{Entry, Missing, Number, Text, entryOf, Within, isMissing}
 use Rattle.line_layouts.specs.Layouts.{isName}
 use Rattle.line_layouts.proofs.Fills.{says, says-more}
-use Rattle.line_layouts.specs.Fitting.{isNumber, isBeside, isLetter, isNone}
+use Rattle.line_layouts.specs.Fitting.{isNumber, isBeside, isFlag, isLetter, isNone}
 use Rattle.line_records.specs.declared.Step.{Step}
 use Rattle.line_records.specs.declared.Step.the-variants as step
-use Rattle.line_records.specs.Walks.{Fit, Fits, Misfit, put, size, isFlag, numberSaid, letterSaid, nameSaid}
+use Rattle.line_records.specs.Walks.{Fit, Fits, Misfit, put, size, numberSaid, letterSaid, nameSaid}
 use Rattle.line_records.specs.Walks.{valueSaid, fieldSaid, walked, hiddenOne, hidden, hiding, meantBy}
 use Rattle.line_records.specs.Places.{numberAt, letterAt, nameAt, numberIn, valueAt, fieldAt, saying, behind}
 use Rattle.line_records.specs.Places.{Stepped, Going, hiddenSaid}
 use Rattle.line_records.proofs.Puts.{fits-none, behind-more, behind-misfit, behind-fits}
-use Rattle.line_records.proofs.Records.{walked-on}
+use Rattle.line_records.proofs.Records.{walked-on, size-number}
 
 -- ---- one field
 
@@ -100,6 +100,7 @@ module _ (ends : Order) (s : List ℕ) (at most : ℕ) (flag : Flag) where
   value-at U1 h = number-at s U1 most flag (numberIn ends U1 s at)
   value-at U2 h = number-at s U2 most flag (numberIn ends U2 s at)
   value-at U4 h = number-at s U4 most flag (numberIn ends U4 s at)
+  value-at Time h = number-at s Time most flag (numberIn ends Time s at)
   value-at C1 h =
       let is = one-taken (drop at s) (omega (arith, length-drop at s)) in
       letter-at s at (getD (drop at s) 0 0) is ∙ sym (rw is)
@@ -125,20 +126,13 @@ field-at ends s at c h = go (leb (at + size (c .0) (drop at s)) (length s)) refl
 
 -- ---- each reader, at a place
 
-pub size-number : (form : Form) (s : List ℕ) → isNumber form ≡ true → size form s ≡ width form
-unfolding size
-size-number U1 s e = refl
-size-number U2 s e = refl
-size-number U4 s e = refl
-size-number C1 s e = false-true e
-size-number Cn s e = false-true e
-
 value-number : (ends : Order) (form : Form) (most : ℕ) (flag : Flag) (s : List ℕ) (at : ℕ) → isNumber form ≡ true
     → valueAt ends form most flag s at ≡ numberAt form most flag (numberIn ends form s at)
 unfolding valueAt
 value-number ends U1 most flag s at e = refl
 value-number ends U2 most flag s at e = refl
 value-number ends U4 most flag s at e = refl
+value-number ends Time most flag s at e = refl
 value-number ends C1 most flag s at e = false-true e
 value-number ends Cn most flag s at e = false-true e
 
@@ -225,6 +219,7 @@ pub letter-form : (form : Form) → isNumber form ≡ false → isName form ≡ 
 letter-form U1 e f = false-true (sym e)
 letter-form U2 e f = false-true (sym e)
 letter-form U4 e f = false-true (sym e)
+letter-form Time e f = false-true (sym e)
 letter-form C1 e f = refl
 letter-form Cn e f = false-true (sym f)
 
@@ -232,6 +227,7 @@ pub name-form : (form : Form) → isName form ≡ true → form ≡ Cn
 name-form U1 f = false-true f
 name-form U2 f = false-true f
 name-form U4 f = false-true f
+name-form Time f = false-true f
 name-form C1 f = false-true f
 name-form Cn f = refl
 
@@ -319,6 +315,7 @@ within-at ends c s at f short says = go (leb (at + size (c .0) (drop at s)) (len
     value U1 short h is = within-number s U1 (c .1) (c .3) (numberIn ends U1 s at) f is
     value U2 short h is = within-number s U2 (c .1) (c .3) (numberIn ends U2 s at) f is
     value U4 short h is = within-number s U4 (c .1) (c .3) (numberIn ends U4 s at) f is
+    value Time short h is = within-number s Time (c .1) (c .3) (numberIn ends Time s at) f is
     value C1 short h is = within-letter s (getD (drop at s) 0 0) at f h is
     value Cn short h is = within-name s (c .1) (getD (drop at s) 0 0) at f (short refl) h is
 

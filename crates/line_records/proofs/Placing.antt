@@ -12,7 +12,7 @@ use Rattle.numbers.specs.declared.Order.{Order}
 use Rattle.line_layouts.specs.declared.Column.{Column}
 use Rattle.line_layouts.specs.declared.Said.{Said}
 use Rattle.line_layouts.specs.declared.Field.{Field}
-use Rattle.line_layouts.specs.Columns.{noColumn}
+use Rattle.line_layouts.specs.Columns.{noColumn, mostColumns}
 use Rattle.line_layouts.specs.Entries.{noField, noFields, padded, isMissing}
 use Rattle.line_layouts.proofs.Fills.{alike-at, stored-on, stored-all}
 use Rattle.line_records.specs.Places.{stepSaid, stepNext, hiddenSaid, placeSaid, fieldsFrom}
@@ -34,7 +34,7 @@ module _ (ends : Order) (cs : List Column) (s : List ℕ) where
     pub rest : drop j allFields ≡ fieldsFrom ends (drop j cs) s at gone
 
   pub placing-first : Placing noFields 0 true 0
-  placing-first = record { first = alike-at Field noField 7; rest = refl }
+  placing-first = record { first = alike-at Field noField mostColumns; rest = refl }
 
   module _ (fields : List Field) (at : ℕ) (gone : Bool) (j : ℕ) (placing : Placing fields at gone j) where
     module _ (more : j < length cs) (f : Said) (next : ℕ) (is : f ≡ stepSaid ends (getD cs j noColumn) s at)
@@ -58,7 +58,7 @@ module _ (ends : Order) (cs : List Column) (s : List ℕ) where
                 ∙ ap (λ (n : ℕ). fieldsFrom ends (drop n cs) s next (isMissing (stored .said))) (sym (add-one j));
           }
 
-    pub placing-done : length cs ≤ j → length cs ≤ 7 → length fields ≡ 7 → fields ≡ padded allFields
-    placing-done over few seven =
+    pub placing-done : length cs ≤ j → length cs ≤ mostColumns → length fields ≡ mostColumns → fields ≡ padded allFields
+    placing-done over few full =
         let size = length-from ends s cs 0 true in
-        stored-all allFields fields j (omega arith) (omega arith) seven (placing .first)
+        stored-all allFields fields j (omega arith) (omega arith) full (placing .first)

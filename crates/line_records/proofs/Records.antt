@@ -2,32 +2,32 @@
 -- Assumes nothing.
 use mathlib.Core.Path.{_≡_, refl, ap, sym, _∙_}
 use mathlib.Core.Bool.{Bool, true, false, cond, not, _&&_, _||_}
-use mathlib.Core.List.{List, [], _∷_, _++_, append-nil}
+use mathlib.Core.List.{List, [], _∷_, _++_}
 use Prim.Native.Nat.{ℕ, zero, suc, _+_, _-_, _*_, _≤_, _<_}
 use Prim.Native.Char.{code}
 use native.Mathlib.Omega.{arith}
-use borrow.Author.Tests.{leb-true, le-leb, eqb-true, eq-eqb, ne-eqb, not-true}
+use borrow.Author.Tests.{leb-true, le-leb, eqb-true, eq-eqb, not-true}
 use lib.Dec.{eqb, leb}
 use lib.ListN.{length, getD, take, drop, length-append}
 use lib.Seq.{take-at, drop-at}
 use Rattle.prelude.proofs.Never.{false-true}
 use Rattle.prelude.proofs.Both.{both-left, both-right}
 use Rattle.numbers.specs.declared.Order.{Order}
-use Rattle.numbers.specs.Numbers.{number, written, past}
+use Rattle.numbers.specs.Numbers.{number, past}
 use Rattle.numbers.proofs.Laws.{read-written, length-written, one-written}
 use Rattle.line_layouts.specs.declared.Form.{Form}
-use Rattle.line_layouts.specs.declared.Form.the-variants.{U1, U2, U4, C1, Cn}
+use Rattle.line_layouts.specs.declared.Form.the-variants.{U1, U2, U4, Time, C1, Cn}
 use Rattle.line_layouts.specs.declared.Flag.{Flag}
 use Rattle.line_layouts.specs.declared.Flag.the-variants.{Never, Own, Beside}
 use Rattle.line_layouts.specs.declared.Column.{Column}
 use Rattle.line_layouts.specs.declared.Layout.the-variants as layout
-use Rattle.line_layouts.specs.Columns.{columns, bar, width}
+use Rattle.line_layouts.specs.Columns.{columns, bar, mostTime, width}
 use Rattle.line_layouts.specs.Entries.{Entry, Missing, Number, Text, kept, present}
-use Rattle.line_layouts.specs.Layouts.{missingValue, isName, stored, laid}
-use Rattle.line_layouts.specs.Fitting.{isNumber, hasFlag, isOwn, isBeside, isLetter, letterFits, formFits, entryFits}
-use Rattle.line_layouts.specs.Fitting.{entriesFit, isNone, sitsOne, sits, formSound, tableSound}
+use Rattle.line_layouts.specs.Layouts.{missingValue, stored, laid}
+use Rattle.line_layouts.specs.Fitting.{isNumber, hasFlag, isOwn, isBeside, isFlag, isLetter, formFits}
+use Rattle.line_layouts.specs.Fitting.{entryFits, entriesFit, isNone, sitsOne, sits, formSound, tableSound}
 use Rattle.line_layouts.proofs.Tables.{sound, CountSound, count-sound, form-sound, rest-sound, left-out}
-use Rattle.line_records.specs.Walks.{Fit, Fits, Misfit, put, size, isFlag, numberSaid, letterSaid, nameSaid}
+use Rattle.line_records.specs.Walks.{Fit, Fits, Misfit, put, size, numberSaid, letterSaid, nameSaid}
 use Rattle.line_records.specs.Walks.{valueSaid, fieldSaid, walked, hiddenOne, hidden, meantBy}
 use Rattle.line_records.specs.Laws.{StoredMeant, MeantFits}
 use Rattle.line_records.proofs.Puts.{fits-none, puts}
@@ -47,18 +47,55 @@ pub record Held (ends : Order) (form : Form) (most : ℕ) (flag : Flag) (e : Ent
   pub few : length (stored ends form e) ≤ 256
   pub says : valueSaid ends form most flag (stored ends form e) ≡ Fits (shown form flag e)
 
--- a number of any width
-module _ (ends : Order) (form : Form) (most : ℕ) (flag : Flag) (is : CountSound (missingValue form) most flag)
-    (ones : missingValue form < past (width form)) where
-  no-flag : (n : ℕ) → n ≤ most → isFlag form flag n ≡ false
-  no-flag n h = go (isOwn flag) refl
-    where
-      go : (t : Bool) → isOwn flag ≡ t → isFlag form flag n ≡ false
-      go true f =
-          let past-it = is .own f in
-          rw (f, ne-eqb n (missingValue form) (λ (e : n ≡ missingValue form). absurd (omega arith)))
-      go false f = rw f
+pub size-number : (form : Form) (s : List ℕ) → isNumber form ≡ true → size form s ≡ width form
+unfolding size
+size-number U1 s e = refl
+size-number U2 s e = refl
+size-number U4 s e = refl
+size-number Time s e = refl
+size-number C1 s e = false-true e
+size-number Cn s e = false-true e
 
+value-number : (ends : Order) (form : Form) (most : ℕ) (flag : Flag) (s : List ℕ) → isNumber form ≡ true
+    → valueSaid ends form most flag s ≡ numberSaid form most flag (number ends s)
+unfolding valueSaid
+value-number ends U1 most flag s e = refl
+value-number ends U2 most flag s e = refl
+value-number ends U4 most flag s e = refl
+value-number ends Time most flag s e = refl
+value-number ends C1 most flag s e = false-true e
+value-number ends Cn most flag s e = false-true e
+
+-- its width holds every number of a sound column, the missing value too, which a field beside another can have
+record Wide (form : Form) (most : ℕ) (flag : Flag) : Type 0 where
+  pub some : 1 ≤ width form
+  pub few : width form ≤ 4
+  pub ones : missingValue form < past (width form)
+  pub range : most < past (width form)
+  pub near : isBeside flag ≡ true → missingValue form ≤ most
+
+count-wide : (form : Form) (most : ℕ) (flag : Flag) → 1 ≤ width form → width form ≤ 4
+    → missingValue form < past (width form) → CountSound (missingValue form) most flag → Wide form most flag
+count-wide form most flag some few ones is =
+    record { some = some; few = few; ones = ones; range = omega (arith, is .range); near = is .near }
+
+wide : (form : Form) (most : ℕ) (flag : Flag) → isNumber form ≡ true → formSound form most flag ≡ true
+    → Wide form most flag
+wide U1 most flag e ok =
+    count-wide U1 most flag (omega arith) (omega arith) (omega arith) (count-sound (missingValue U1) most flag ok)
+wide U2 most flag e ok =
+    count-wide U2 most flag (omega arith) (omega arith) (omega arith) (count-sound (missingValue U2) most flag ok)
+wide U4 most flag e ok =
+    count-wide U4 most flag (omega arith) (omega arith) (omega arith) (count-sound (missingValue U4) most flag ok)
+wide Time most flag e ok =
+    let few = leb-true most mostTime (both-left (leb most mostTime) (isOwn flag) ok) in
+    record { some = omega arith; few = omega arith; ones = omega arith; range = omega arith; near = λ b. omega arith }
+wide C1 most flag e ok = false-true e
+wide Cn most flag e ok = false-true e
+
+-- a number of any width
+module _ (ends : Order) (form : Form) (most : ℕ) (flag : Flag) (number-is : isNumber form ≡ true)
+    (is : Wide form most flag) where
   missing-said : hasFlag flag ≡ true → numberSaid form most flag (missingValue form) ≡ Fits (shown form flag Missing)
   missing-said = go flag refl
     where
@@ -68,25 +105,36 @@ module _ (ends : Order) (form : Form) (most : ℕ) (flag : Flag) (is : CountSoun
       go Own e f = rw (eq-eqb (missingValue form) (missingValue form) refl)
       go Beside e f = rw (le-leb (missingValue form) most (is .near (rw e)))
 
-  count-said : (e : Entry) → isNumber form ≡ true → formFits form most flag e ≡ true
+  count-said : (e : Entry) → formFits form most flag e ≡ true
       → numberSaid form most flag (number ends (stored ends form e)) ≡ Fits (shown form flag e)
-  count-said Missing number f = rw (read-written ends (width form) (missingValue form) ones) (missing-said f)
-  count-said (Number n) number f =
-      let small = leb-true n most (both-right (isNumber form) (leb n most) f) in
+  count-said Missing f = rw (read-written ends (width form) (missingValue form) (is .ones)) (missing-said f)
+  count-said (Number n) f =
+      let plain = not (isFlag form flag n) in
+      let fit = both-right (isNumber form) (leb n most && plain) f in
+      let small = leb-true n most (both-left (leb n most) plain fit) in
       rw (
         read-written ends (width form) n (omega (arith, is .range)),
-        no-flag n small,
+        not-true (isFlag form flag n) (both-right (leb n most) plain fit),
         le-leb n most small,
       )
-  count-said (Text []) number f = false-true f
-  count-said (Text (b ∷ bs)) number f = false-true (rw number at f)
+  count-said (Text []) f = false-true f
+  count-said (Text (b ∷ bs)) f = false-true (rw number-is at f)
 
-  count-length : (e : Entry) → isNumber form ≡ true → formFits form most flag e ≡ true
-      → length (stored ends form e) ≡ width form
-  count-length Missing number f = length-written ends (width form) (missingValue form)
-  count-length (Number n) number f = length-written ends (width form) n
-  count-length (Text []) number f = false-true f
-  count-length (Text (b ∷ bs)) number f = false-true (rw number at f)
+  count-length : (e : Entry) → formFits form most flag e ≡ true → length (stored ends form e) ≡ width form
+  count-length Missing f = length-written ends (width form) (missingValue form)
+  count-length (Number n) f = length-written ends (width form) n
+  count-length (Text []) f = false-true f
+  count-length (Text (b ∷ bs)) f = false-true (rw number-is at f)
+
+  count-held : (e : Entry) → formFits form most flag e ≡ true → Held ends form most flag e
+  count-held e f =
+      let long = count-length e f in
+      record {
+        sized = λ s. size-number form (stored ends form e ++ s) number-is ∙ sym long;
+        some = omega (arith, is .some);
+        few = omega (arith, is .few);
+        says = value-number ends form most flag (stored ends form e) number-is ∙ count-said e f;
+      }
 
 letter-said : (b : ℕ) → isLetter b ≡ true → letterSaid b ≡ Fits (Text (b ∷ []))
 letter-said b f = go (eqb b (code "P")) refl (eqb b (code "F")) refl
@@ -105,33 +153,10 @@ module _ (ends : Order) where
   held : (form : Form) (most : ℕ) (flag : Flag) (e : Entry) → formSound form most flag ≡ true
       → formFits form most flag e ≡ true → Held ends form most flag e
   unfolding size valueSaid
-  held U1 most flag e ok f =
-      let is = count-sound (missingValue U1) most flag ok in
-      let long = count-length ends U1 most flag is (omega arith) e refl f in
-      record {
-        sized = λ s. sym long;
-        some = omega arith;
-        few = omega arith;
-        says = count-said ends U1 most flag is (omega arith) e refl f;
-      }
-  held U2 most flag e ok f =
-      let is = count-sound (missingValue U2) most flag ok in
-      let long = count-length ends U2 most flag is (omega arith) e refl f in
-      record {
-        sized = λ s. sym long;
-        some = omega arith;
-        few = omega arith;
-        says = count-said ends U2 most flag is (omega arith) e refl f;
-      }
-  held U4 most flag e ok f =
-      let is = count-sound (missingValue U4) most flag ok in
-      let long = count-length ends U4 most flag is (omega arith) e refl f in
-      record {
-        sized = λ s. sym long;
-        some = omega arith;
-        few = omega arith;
-        says = count-said ends U4 most flag is (omega arith) e refl f;
-      }
+  held U1 most flag e ok f = count-held ends U1 most flag refl (wide U1 most flag refl ok) e f
+  held U2 most flag e ok f = count-held ends U2 most flag refl (wide U2 most flag refl ok) e f
+  held U4 most flag e ok f = count-held ends U4 most flag refl (wide U4 most flag refl ok) e f
+  held Time most flag e ok f = count-held ends Time most flag refl (wide Time most flag refl ok) e f
   held C1 most flag Missing ok f =
       let own = both-right (eqb most 1) (isOwn flag) ok in
       let is = one-written ends 32 (omega arith) in
@@ -366,7 +391,7 @@ count-raw form most flag n e number says = go (isFlag form flag n) refl (leb n m
     go false f true g =
         let is : Fits (Number n) ≡ Fits e = rw (f, g) at says in
         let same : Number n ≡ e = cc in
-        rw (← same) (rw (number, g), or-true (not (isBeside flag)))
+        rw (← same) (rw (number, g, f), or-true (not (isBeside flag)))
     go false f false g = fits-none e (rw (f, g) at says)
 
 letter-raw : (most : ℕ) (flag : Flag) (b : ℕ) (e : Entry) → most ≡ 1 → isOwn flag ≡ true → letterSaid b ≡ Fits e
@@ -404,6 +429,7 @@ unfolding valueSaid
 value-raw ends U1 most flag s e sound says = count-raw U1 most flag (number ends s) e refl says
 value-raw ends U2 most flag s e sound says = count-raw U2 most flag (number ends s) e refl says
 value-raw ends U4 most flag s e sound says = count-raw U4 most flag (number ends s) e refl says
+value-raw ends Time most flag s e sound says = count-raw Time most flag (number ends s) e refl says
 value-raw ends C1 most flag s e sound says =
     letter-raw most flag (getD s 0 0) e (eqb-true most 1 (both-left (eqb most 1) (isOwn flag) sound))
     (both-right (eqb most 1) (isOwn flag) sound) says

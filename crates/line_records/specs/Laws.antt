@@ -45,6 +45,8 @@ abbrev pub kindFor : Tag → Kind
 kindFor tag.Pcr = kind.Pcr
 kindFor tag.Hbr = kind.Hbr
 kindFor tag.Sbr = kind.Sbr
+kindFor tag.Wir = kind.Wir
+kindFor tag.Wrr = kind.Wrr
 
 -- 7: the body doesn't fit its kind, whether a session judges it or a line is written of it
 abbrev pub MeantRead : Type 0

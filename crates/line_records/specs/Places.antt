@@ -22,7 +22,7 @@ use Rattle.line_layouts.specs.declared.Tag.{Tag}
 use Rattle.line_layouts.specs.declared.Tagging.{Tagging}
 use Rattle.line_layouts.specs.declared.Tagging.the-variants.{Known, Other}
 use Rattle.line_layouts.specs.declared.Form.{Form}
-use Rattle.line_layouts.specs.declared.Form.the-variants.{U1, U2, U4, C1, Cn}
+use Rattle.line_layouts.specs.declared.Form.the-variants.{U1, U2, U4, Time, C1, Cn}
 use Rattle.line_layouts.specs.declared.Flag.{Flag}
 use Rattle.line_layouts.specs.declared.Column.{Column}
 use Rattle.line_layouts.specs.declared.Said.{Said}
@@ -32,10 +32,10 @@ use Rattle.line_layouts.specs.declared.Line.{Line}
 use Rattle.line_layouts.specs.Columns.{columns, width}
 use Rattle.line_layouts.specs.Entries.{Entry, entryOf, isMissing, padded, Within}
 use Rattle.line_layouts.specs.Judging.{noLine}
-use Rattle.line_layouts.specs.Fitting.{isNumber, isBeside, isLetter}
+use Rattle.line_layouts.specs.Fitting.{isNumber, isBeside, isFlag, isLetter}
 use Rattle.line_records.specs.declared.Step.{Step}
 use Rattle.line_records.specs.declared.Step.the-variants as step
-use Rattle.line_records.specs.Walks.{Fit, Fits, Misfit, put, size, isFlag, walked}
+use Rattle.line_records.specs.Walks.{Fit, Fits, Misfit, put, size, walked}
 use Rattle.line_records.specs.Records.{countTag}
 
 abbrev pub numberAt : Form → ℕ → Flag → ℕ → Fit Said
@@ -60,6 +60,7 @@ unfoldable pub valueAt : Order → Form → ℕ → Flag → List ℕ → ℕ �
 valueAt ends U1 most flag s at = numberAt U1 most flag (numberIn ends U1 s at)
 valueAt ends U2 most flag s at = numberAt U2 most flag (numberIn ends U2 s at)
 valueAt ends U4 most flag s at = numberAt U4 most flag (numberIn ends U4 s at)
+valueAt ends Time most flag s at = numberAt Time most flag (numberIn ends Time s at)
 valueAt ends C1 most flag s at = letterAt (getD (drop at s) 0 0) at
 valueAt ends Cn most flag s at = nameAt most (getD (drop at s) 0 0) at
 

@@ -1,4 +1,5 @@
--- What a count record means. Document 01, "Record frame and kinds", PCR, HBR and SBR; orders of checks, 3, 6, 7.
+-- What a record means that has a line. Document 01, "Record frame and kinds", PCR, HBR and SBR; #103, WIR and WRR;
+-- orders of checks, 3, 6, 7.
 --
 --   countTag   the line of a kind of record
 --   meaning    what a record means, or the answer that it is refused with
@@ -20,11 +21,13 @@ use Rattle.line_layouts.specs.Entries.{Entry}
 use Rattle.line_layouts.specs.Judging.{Judging, Says, Faulty}
 use Rattle.line_records.specs.Walks.{Fit, Fits, Misfit, meant}
 
--- 6, when writing text: not PCR, HBR or SBR
+-- 6, when writing text: not PCR, HBR or SBR; #103, nor WIR or WRR
 abbrev pub countTag : Kind → Tagging
 countTag kind.Pcr = Known tag.Pcr
 countTag kind.Hbr = Known tag.Hbr
 countTag kind.Sbr = Known tag.Sbr
+countTag kind.Wir = Known tag.Wir
+countTag kind.Wrr = Known tag.Wrr
 countTag kind.Far = Other
 countTag kind.Atr = Other
 countTag kind.Mir = Other
@@ -46,8 +49,8 @@ abbrev pub taggedMeans : Tagging → Order → List ℕ → Judging
 taggedMeans (Known tag) ends b = bodyMeans tag (meant ends tag b)
 taggedMeans Other ends b = Faulty UnknownKind
 
--- head and site or all sites, the numbers, each optional one a value or missing, the name's bytes. Writing checks 3,
--- 6, 7
+-- head and site or all sites, the numbers, each optional one a value or missing, the name's bytes; #103, a time of 0 is
+-- missing. Writing checks 3, 6, 7
 unfoldable pub meaning : Order → List ℕ → Judging
 meaning ends s =
     Faulty NotOneRecord unless isRecord ends s then

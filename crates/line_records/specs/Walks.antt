@@ -1,5 +1,5 @@
--- The body of a count record walked field by field, along the columns of its line. Document 01, "Record frame and
--- kinds", bodies read, their value rules and optional fields; "Count lines", head 255.
+-- The body of a record walked field by field, along the columns of its line. Document 01, "Record frame and kinds",
+-- bodies read, their value rules and optional fields; "Count lines", head 255. #103, times.
 --
 --   Fit         what is read, or that it does not fit: 7
 --   size        how many bytes a field takes, by its first
@@ -8,7 +8,7 @@
 --   hidden      without that site
 --   meant       what a body means
 -- Assumes nothing.
-use mathlib.Core.Bool.{Bool, cond, _&&_}
+use mathlib.Core.Bool.{cond, _&&_}
 use mathlib.Core.List.{List, [], _∷_}
 use Prim.Native.Nat.{ℕ, zero, suc, _+_, _-_}
 use Prim.Native.Char.{code}
@@ -19,13 +19,12 @@ use Rattle.numbers.specs.declared.Order.{Order}
 use Rattle.numbers.specs.Numbers.{number}
 use Rattle.line_layouts.specs.declared.Tag.{Tag}
 use Rattle.line_layouts.specs.declared.Form.{Form}
-use Rattle.line_layouts.specs.declared.Form.the-variants.{U1, U2, U4, C1, Cn}
+use Rattle.line_layouts.specs.declared.Form.the-variants.{U1, U2, U4, Time, C1, Cn}
 use Rattle.line_layouts.specs.declared.Flag.{Flag}
 use Rattle.line_layouts.specs.declared.Column.{Column}
 use Rattle.line_layouts.specs.Columns.{columns, bar}
 use Rattle.line_layouts.specs.Entries.{Entry, Missing, Number, Text}
-use Rattle.line_layouts.specs.Layouts.{missingValue}
-use Rattle.line_layouts.specs.Fitting.{isOwn, isBeside, isLetter, isNone}
+use Rattle.line_layouts.specs.Fitting.{isBeside, isFlag, isLetter, isNone}
 
 pub data Fit (A : Type 0) : Type 0 where
   Fits : A → Fit A
@@ -42,16 +41,13 @@ unfoldable pub size : Form → List ℕ → ℕ
 size U1 s = 1
 size U2 s = 2
 size U4 s = 4
+size Time s = 4
 size C1 s = 1
 size Cn s = 1 + getD s 0 0
 
 -- ---- the bytes of one field, all of them
 
--- Missing: all ones, where the field has such a value
-abbrev pub isFlag : Form → Flag → ℕ → Bool
-isFlag form flag n = isOwn flag && eqb n (missingValue form)
-
--- bins 0 to 32,767, heads 0 to 254: no more than the column's most
+-- missing by its flag; bins 0 to 32,767, heads 0 to 254: no more than the column's most
 abbrev pub numberSaid : Form → ℕ → Flag → ℕ → Fit Entry
 numberSaid form most flag n =
     cond (isFlag form flag n) (Fits Missing) (cond (leb n most) (Fits (Number n)) Misfit)
@@ -69,6 +65,7 @@ unfoldable pub valueSaid : Order → Form → ℕ → Flag → List ℕ → Fit 
 valueSaid ends U1 most flag s = numberSaid U1 most flag (number ends s)
 valueSaid ends U2 most flag s = numberSaid U2 most flag (number ends s)
 valueSaid ends U4 most flag s = numberSaid U4 most flag (number ends s)
+valueSaid ends Time most flag s = numberSaid Time most flag (number ends s)
 valueSaid ends C1 most flag s = letterSaid (getD s 0 0)
 valueSaid ends Cn most flag s = nameSaid most (drop 1 s)
 

@@ -1,4 +1,5 @@
-// A count record taken apart: document 01, "Record frame and kinds", PCR, HBR and SBR, and orders of checks, 3, 6, 7.
+// A record taken apart that has a line: document 01, "Record frame and kinds", PCR, HBR and SBR, and orders of checks,
+// 3, 6, 7; #103, WIR and WRR.
 mod walking;
 
 use answers::Answer;
@@ -26,6 +27,8 @@ fn count_tag(kind: Kind) -> Tagging
         Kind::Pcr => Tagging::Known(Tag::Pcr),
         Kind::Hbr => Tagging::Known(Tag::Hbr),
         Kind::Sbr => Tagging::Known(Tag::Sbr),
+        Kind::Wir => Tagging::Known(Tag::Wir),
+        Kind::Wrr => Tagging::Known(Tag::Wrr),
         Kind::Far => Tagging::Other,
         Kind::Atr => Tagging::Other,
         Kind::Mir => Tagging::Other,

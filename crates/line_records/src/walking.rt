@@ -1,5 +1,5 @@
-// The body of a count record walked along the columns of its line, any length of each name: document 01, "Record frame
-// and kinds", bodies read. Each reader tells what the field at a place says and where the next one begins.
+// The body of a record walked along the columns of its line, any length of each name: document 01, "Record frame and
+// kinds", bodies read. Each reader tells what the field at a place says and where the next one begins.
 use super::Step;
 use answers::Answer;
 use line_layouts::Column;
@@ -28,9 +28,9 @@ ghost use mathlib.Core.Bool.{true};
 ghost use Prim.Native.Nat.{_+_, _-_, _≤_, _<_};
 ghost use lib.ListN.{length};
 ghost use Rattle.line_layouts.specs.Columns.{width};
-ghost use Rattle.line_layouts.specs.Fitting.{isNumber};
+ghost use Rattle.line_layouts.specs.Fitting.{isNumber, isFlag};
 ghost use Rattle.line_layouts.specs.Judging.{Held};
-ghost use Rattle.line_records.specs.Walks.{isFlag, meant};
+ghost use Rattle.line_records.specs.Walks.{meant};
 ghost use Rattle.line_records.specs.Records.{bodyMeans};
 ghost use Rattle.line_records.specs.Places.{numberIn, hiddenSaid, Stepped, LetterStepped, NameStepped, Going};
 ghost use Rattle.line_records.specs.Places.{lineAt};
@@ -182,7 +182,7 @@ pub fn walk(order: Order, tag: Tag, s: &[u8]) -> Judged
     let none = Field {
         said: Said::Missing,
     };
-    let mut fields = [none; 7];
+    let mut fields = [none; 14];
     let mut at: usize = 0;
     let mut gone = true;
     let mut j: usize = 0;

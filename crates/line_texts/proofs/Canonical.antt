@@ -2,13 +2,13 @@
 -- Assumes nothing.
 use mathlib.Core.Path.{_≡_, refl, ap, sym, subst, _∙_}
 use mathlib.Core.Bool.{Bool, true, false, cond, not, _&&_, _||_}
-use mathlib.Core.List.{List, [], _∷_, _++_, map, append-assoc, append-nil}
-use Prim.Native.Nat.{ℕ, zero, suc, _+_, _-_, _≤_, _<_}
+use mathlib.Core.List.{List, [], _∷_, _++_, append-assoc, append-nil}
+use Prim.Native.Nat.{ℕ, zero, suc, _+_, _-_, _≤_, _<_, _^_}
 use Prim.Native.Char.{code}
 use native.Mathlib.Omega.{arith}
-use borrow.Author.Tests.{leb-true, le-leb, eqb-true, eqb-false, eq-eqb, ne-eqb, not-true}
+use borrow.Author.Tests.{leb-true, le-leb, eqb-true, eq-eqb, ne-eqb, not-true}
 use lib.Dec.{eqb, leb}
-use lib.ListN.{length, getD, take, drop, length-append, length-take, length-map, List·getD-append}
+use lib.ListN.{length, getD, take, drop, length-append, length-take, List·getD-append}
 use lib.Seq.{take-all, take-at, getD-at}
 use Rattle.prelude.specs.Each.{each}
 use Rattle.prelude.proofs.Never.{false-true}
@@ -16,31 +16,38 @@ use Rattle.prelude.proofs.Both.{both-left, both-right}
 use Rattle.prelude.proofs.Each.{each-append, each-take, each-at}
 use Rattle.digits.specs.declared.Numeral.{Numeral}
 use Rattle.digits.specs.declared.Numeral.the-variants.{Value, NotANumber}
-use Rattle.digits.specs.Digits.{digits, isDigit, numeral}
-use Rattle.digits.proofs.Laws.{digits-digits, digits-some, numeral-digits, digit-least}
+use Rattle.digits.specs.Digits.{digits, isDigit}
+use Rattle.digits.proofs.Laws.{digits-digits, digits-some, numeral-digits}
+use Rattle.dates.specs.Dates.{dateText, dateByte}
+use Rattle.dates.proofs.Laws.{date-read, date-size, date-bytes}
 use Rattle.line_layouts.specs.declared.Tag.{Tag}
-use Rattle.line_layouts.specs.declared.Tag.the-variants.{Pcr, Hbr, Sbr}
+use Rattle.line_layouts.specs.declared.Tag.the-variants.{Pcr, Hbr, Sbr, Wir, Wrr}
+use Rattle.line_layouts.specs.declared.Form.{Form}
 use Rattle.line_layouts.specs.declared.Column.{Column}
 use Rattle.line_layouts.specs.declared.Layout.the-variants as layout
 use Rattle.line_layouts.specs.Columns.{separator, lineFeed, carriageReturn, tagText, columns, noColumn, bar, order}
 use Rattle.line_layouts.specs.Columns.{back}
 use Rattle.line_layouts.specs.Arranging.{arranged}
-use Rattle.line_layouts.specs.Names.{allowed, entryAllowed}
+use Rattle.line_layouts.specs.Names.{allowed, isCapital, entryAllowed}
 use Rattle.line_layouts.specs.Entries.{Entry, Missing, Number, Text, Meaning, kept, present}
-use Rattle.line_layouts.specs.Layouts.{isName, entryText, laid, textBy}
-use Rattle.line_layouts.specs.Fitting.{isNumber, hasFlag, isLetter, letterFits, entryFits, sits, tableSound}
-use Rattle.line_layouts.proofs.Arranging.{length-arranged, arranged-at, arranged-same, map-arranged, put-back}
-use Rattle.line_layouts.proofs.Tables.{sound, turned, Sane, sane, rest-sound, bar-separates, Apart, apart}
+use Rattle.line_layouts.specs.Layouts.{isName, isTime, numberText, entryText, laid, textBy}
+use Rattle.line_layouts.specs.Fitting.{isNumber, hasFlag, isFlag, isLetter, letterFits, entryFits, sits}
+use Rattle.line_layouts.specs.Fitting.{given, tableSound}
+use Rattle.line_layouts.proofs.Arranging.{length-arranged, arranged-at, arranged-same, put-back}
+use Rattle.line_layouts.proofs.Tables.{sound, turned, Sane, sane, form-sound, rest-sound, bar-separates, Apart, apart}
 use Rattle.line_layouts.specs.Judging.{Says}
 use Rattle.line_layouts.specs.declared.Tagging.{Tagging}
 use Rattle.line_layouts.specs.declared.Tagging.the-variants.{Known, Other}
-use Rattle.line_texts.specs.Pieces.{onto, split, gathered, numberFits, numberIn}
+use Rattle.line_texts.specs.Pieces.{onto, split, gathered, numeralIn, numberFits, numberIn}
 use Rattle.line_texts.specs.Pieces.{valueIn, pieceFits, entryIn, fieldsFit, entriesIn}
 use Rattle.line_texts.specs.Texts.{isBreak, content, unbroken, tagOf, fieldsMean}
 use Rattle.line_texts.specs.Texts.{taggedMeans, contentMeans, lineMeaningBy}
-use Rattle.line_texts.specs.Laws.{given, tells, allTell, TellingBy, CanonicalRead, ReadTells, ReadAgain}
-use Rattle.line_texts.proofs.Joins.{joined}
-use Rattle.line_texts.proofs.Whole.{ending-feed, not-said, mean-said, mean-is, content-tagged}
+use Rattle.line_texts.specs.Laws.{tells, allTell, TellingBy, CanonicalRead, ReadTells}
+use Rattle.line_texts.specs.Laws.{CanonicalOnce, ReadAgain}
+use Rattle.line_texts.proofs.Joins.{joined, lined}
+use Rattle.line_texts.proofs.Whole.{ending-feed, not-said, says-same, mean-said, mean-is}
+use Rattle.line_texts.proofs.Whole.{content-tagged, length-tag}
+use Rattle.line_texts.proofs.Fits.{Ranged, ranged, numeral-least}
 
 -- ---- bytes that neither separate nor break
 
@@ -53,14 +60,27 @@ each-weak f g h (b ∷ s) e =
 abbrev plain : ℕ → ℕ → Bool
 plain sep b = not (eqb b sep) && not (isBreak b)
 
-plain-other : (sep b : ℕ) → (b ≡ sep → ⊥) → (b ≡ 10 → ⊥) → (b ≡ 13 → ⊥) → plain sep b ≡ true
-plain-other sep b s l c = rw (ne-eqb b sep s, ne-eqb b 10 l, ne-eqb b 13 c)
+-- a byte that is of a kind is not one that is not
+other-by : (f : ℕ → Bool) (c b : ℕ) → f c ≡ false → f b ≡ true → eqb b c ≡ false
+other-by f c b other is = ne-eqb b c (λ (i : b ≡ c). false-true {A = ⊥} (sym other ∙ ap f (sym i) ∙ is))
+
+plain-by : (f : ℕ → Bool) (sep : ℕ) → f sep ≡ false → f 10 ≡ false → f 13 ≡ false → (b : ℕ) → f b ≡ true
+    → plain sep b ≡ true
+plain-by f sep s l c b e = rw (other-by f sep b s e, other-by f 10 b l e, other-by f 13 b c e)
 
 plain-digit : (sep : ℕ) → Apart sep → (b : ℕ) → isDigit b ≡ true → plain sep b ≡ true
-plain-digit sep ok b e =
-    let low = digit-least b e in
-    plain-other sep b (λ (i : b ≡ sep). false-true {A = ⊥} (sym (ok .digit) ∙ (rw i at e)))
-    (λ (i : b ≡ 10). absurd (omega arith)) (λ (i : b ≡ 13). absurd (omega arith))
+unfolding isDigit
+plain-digit sep ok b e = plain-by isDigit sep (ok .digit) refl refl b e
+
+-- #103: a date is of digits, capitals, colon, minus and space
+plain-date : (sep : ℕ) → Apart sep → (b : ℕ) → dateByte b ≡ true → plain sep b ≡ true
+unfolding dateByte isDigit
+plain-date sep ok b e = plain-by dateByte sep (date-apart sep ok) refl refl b e
+  where
+    date-apart : (c : ℕ) → Apart c → dateByte c ≡ false
+    date-apart c other =
+        let space = ne-eqb c (code " ") (λ (i : c ≡ code " "). absurd (omega (arith, other .low))) in
+        rw (other .digit, other .capital, other .colon, other .minus, space)
 
 plain-allowed : (sep b : ℕ) → allowed sep b ≡ true → plain sep b ≡ true
 unfolding allowed
@@ -74,26 +94,43 @@ letter-allowed : (sep : ℕ) → Apart sep → (b : ℕ) → isLetter b ≡ true
 unfolding allowed
 letter-allowed sep ok b e = go (eqb b (code "P")) refl (eqb b (code "F")) refl
   where
-    turn : (n : ℕ) → eqb sep n ≡ false → eqb n sep ≡ false
-    turn n f = ne-eqb n sep (λ (i : n ≡ sep). eqb-false sep n f (sym i))
-
     go : (t : Bool) → eqb b (code "P") ≡ t → (u : Bool) → eqb b (code "F") ≡ u
         → (leb 32 b && (leb b 126 && not (eqb b sep))) ≡ true
-    go true f u g = rw (eqb-true b (code "P") f, turn (code "P") (ok .pass))
-    go false f true g = rw (eqb-true b (code "F") g, turn (code "F") (ok .fail))
+    go true f u g = rw (eqb-true b (code "P") f, other-by isCapital sep (code "P") (ok .capital) refl)
+    go false f true g = rw (eqb-true b (code "F") g, other-by isCapital sep (code "F") (ok .capital) refl)
     go false f false g = false-true (rw (f, g) at e)
 
 -- ---- one entry: its text is plain, and is read back as the entry
 
-module _ (sep : ℕ) (c : Column) (ok : Sane c) where
-  number-reads : (n : ℕ) (s : List ℕ) → digits n ≡ s → 1 ≤ length s → isNumber (c .0) ≡ true → leb n (c .1) ≡ true
-      → (pieceFits sep c s ≡ true) × (entryIn c s ≡ Number n)
+-- a number's text is plain, is some, and says the number: a date where it is a time
+record Spoken (sep : ℕ) (form : Form) (n : ℕ) : Type 0 where
+  clean : each (plain sep) (numberText form n) ≡ true
+  some : 1 ≤ length (numberText form n)
+  says : numeralIn form (numberText form n) ≡ Value n
+
+spoken : (sep : ℕ) → Apart sep → (form : Form) (n : ℕ) → n < 2 ^ 32 → (isTime form ≡ true → 1 ≤ n) → Spoken sep form n
+spoken sep ok form n small least = go (isTime form) refl
+  where
+    go : (t : Bool) → isTime form ≡ t → Spoken sep form n
+    go true e =
+        record {
+          clean = rw e (each-weak dateByte (plain sep) (plain-date sep ok) (dateText n) (date-bytes n (omega arith)));
+          some = rw e (omega (arith, date-size n .0));
+          says = rw (e, date-read n (least e) (omega arith));
+        }
+    go false e =
+        record {
+          clean = rw e (each-weak isDigit (plain sep) (plain-digit sep ok) (digits n) (digits-digits n));
+          some = rw e (digits-some n);
+          says = rw e (numeral-digits n small);
+        }
+
+module _ (sep : ℕ) (c : Column) (ok : Sane c) (range : Ranged c) where
+  number-reads : (n : ℕ) (s : List ℕ) → 1 ≤ length s → numeralIn (c .0) s ≡ Value n → isNumber (c .0) ≡ true
+      → leb n (c .1) ≡ true → (pieceFits sep c s ≡ true) × (entryIn c s ≡ Number n)
   unfolding pieceFits entryIn
-  number-reads n [] is some f g = absurd (omega arith)
-  number-reads n (b ∷ bs) is some f g =
-      let small = leb-true n (c .1) g in
-      let value : numeral (b ∷ bs) ≡ Value n = rw (← is) (numeral-digits n (omega (arith, ok .most))) in
-      (rw (f, value) g, rw (f, value))
+  number-reads n [] some value f g = absurd (omega arith)
+  number-reads n (b ∷ bs) some value f g = (rw (f, value) g, rw (f, value))
 
   text-reads : (b : ℕ) (bs : List ℕ) → isNumber (c .0) ≡ false → length (b ∷ bs) ≤ c .1
       → (isName (c .0) || letterFits (b ∷ bs)) ≡ true → each (allowed sep) (b ∷ bs) ≡ true
@@ -109,17 +146,23 @@ module _ (sep : ℕ) (c : Column) (ok : Sane c) where
 
   -- an entry's text is plain, fits its column, and says the entry
   entry-reads : Apart sep → (e : Entry) → tells sep c e ≡ true
-      → (each (plain sep) (entryText e) ≡ true) × (pieceFits sep c (entryText e) ≡ true) × (entryIn c (entryText e) ≡ e)
+      → (each (plain sep) (entryText (c .0) e) ≡ true) × (pieceFits sep c (entryText (c .0) e) ≡ true)
+      × (entryIn c (entryText (c .0) e) ≡ e)
   unfolding pieceFits entryIn
   entry-reads apart Missing e =
       let there = both-left (not (c .2)) true (both-right (hasFlag (c .3)) (not (c .2) && true) e) in
       (refl, there, refl)
   entry-reads apart (Number n) e =
-      let fit = both-left (isNumber (c .0) && leb n (c .1)) true e in
-      let f = both-left (isNumber (c .0)) (leb n (c .1)) fit in
-      let g = both-right (isNumber (c .0)) (leb n (c .1)) fit in
-      let r = number-reads n (digits n) refl (digits-some n) f g in
-      (each-weak isDigit (plain sep) (plain-digit sep apart) (digits n) (digits-digits n), r .0, r .1)
+      let other = not (isFlag (c .0) (c .3) n) in
+      let fit = both-left (isNumber (c .0) && (leb n (c .1) && other)) true e in
+      let f = both-left (isNumber (c .0)) (leb n (c .1) && other) fit in
+      let in-range = both-right (isNumber (c .0)) (leb n (c .1) && other) fit in
+      let g = both-left (leb n (c .1)) other in-range in
+      let h = both-right (leb n (c .1)) other in-range in
+      let small : n < 2 ^ 32 = omega (arith, leb-true n (c .1) g, ok .most) in
+      let text = spoken sep apart (c .0) n small (λ (t : isTime (c .0) ≡ true). range .least n t h) in
+      let r = number-reads n (numberText (c .0) n) (text .some) (text .says) f g in
+      (text .clean, r .0, r .1)
   entry-reads apart (Text []) e = false-true e
   entry-reads apart (Text (b ∷ bs)) e =
       let rule = isName (c .0) || letterFits (b ∷ bs) in
@@ -135,33 +178,54 @@ module _ (sep : ℕ) (c : Column) (ok : Sane c) where
 
 -- ---- all of them, in the order of the columns
 
+abbrev texts : List Column → List Entry → List (List ℕ)
+texts [] es = []
+texts (c ∷ cs) [] = []
+texts (c ∷ cs) (e ∷ es) = entryText (c .0) e ∷ texts cs es
+
+text-at : (cs : List Column) (es : List Entry) → length es ≤ length cs → (i : ℕ)
+    → getD (texts cs es) i [] ≡ entryText (getD cs i noColumn .0) (getD es i Missing)
+text-at [] [] h i = refl
+text-at [] (e ∷ es) h i = absurd (omega arith)
+text-at (c ∷ cs) [] h i = refl
+text-at (c ∷ cs) (e ∷ es) h zero = refl
+text-at (c ∷ cs) (e ∷ es) h (suc i) = text-at cs es (omega arith) i
+
+length-texts : (cs : List Column) (es : List Entry) → length es ≤ length cs → length (texts cs es) ≡ length es
+length-texts [] [] h = refl
+length-texts [] (e ∷ es) h = absurd (omega arith)
+length-texts (c ∷ cs) [] h = refl
+length-texts (c ∷ cs) (e ∷ es) h = ap suc (length-texts cs es (omega arith))
+
 module _ (sep : ℕ) (apart : Apart sep) where
   pieces-read : (k : ℕ) (cs : List Column) (es : List Entry) → tableSound k cs ≡ true → allTell sep cs es ≡ true
-      → (fieldsFit sep cs (map entryText es) ≡ true) × (entriesIn cs (map entryText es) ≡ es)
+      → (fieldsFit sep cs (texts cs es) ≡ true) × (entriesIn cs (texts cs es) ≡ es)
   unfolding fieldsFit entriesIn
   pieces-read k [] [] ok e = (refl, refl)
   pieces-read k [] (x ∷ es) ok e = false-true e
   pieces-read k (c ∷ cs) [] ok e = false-true e
   pieces-read k (c ∷ cs) (x ∷ es) ok e =
-      let r = entry-reads sep c (sane k c cs ok) apart x (both-left (tells sep c x) (allTell sep cs es) e) in
+      let one = both-left (tells sep c x) (allTell sep cs es) e in
+      let r = entry-reads sep c (sane k c cs ok) (ranged c (form-sound k c cs ok)) apart x one in
       let ih = pieces-read (k - 1) cs es (rest-sound k c cs ok) (both-right (tells sep c x) (allTell sep cs es) e) in
       (rw (r .1, ih .0), rw (r .2, ih .1))
 
   -- past the last one nothing stands, which is plain
   pieces-plain : (k : ℕ) (cs : List Column) (es : List Entry) → tableSound k cs ≡ true → allTell sep cs es ≡ true
-      → (i : ℕ) → each (plain sep) (entryText (getD es i Missing)) ≡ true
+      → (i : ℕ) → each (plain sep) (getD (texts cs es) i []) ≡ true
   pieces-plain k [] [] ok e i = refl
   pieces-plain k [] (x ∷ es) ok e i = false-true e
   pieces-plain k (c ∷ cs) [] ok e i = false-true e
   pieces-plain k (c ∷ cs) (x ∷ es) ok e zero =
-      entry-reads sep c (sane k c cs ok) apart x (both-left (tells sep c x) (allTell sep cs es) e) .0
+      let one = both-left (tells sep c x) (allTell sep cs es) e in
+      entry-reads sep c (sane k c cs ok) (ranged c (form-sound k c cs ok)) apart x one .0
   pieces-plain k (c ∷ cs) (x ∷ es) ok e (suc i) =
       pieces-plain (k - 1) cs es (rest-sound k c cs ok) (both-right (tells sep c x) (allTell sep cs es) e) i
 
-each-plain : (sep : ℕ) (es : List Entry) → ((i : ℕ) → each (plain sep) (entryText (getD es i Missing)) ≡ true)
-    → each (each (plain sep)) (map entryText es) ≡ true
+each-plain : (sep : ℕ) (ps : List (List ℕ)) → ((i : ℕ) → each (plain sep) (getD ps i []) ≡ true)
+    → each (each (plain sep)) ps ≡ true
 each-plain sep [] all = refl
-each-plain sep (e ∷ es) all = rw (all 0, each-plain sep es (λ (i : ℕ). all (suc i)))
+each-plain sep (p ∷ ps) all = rw (all 0, each-plain sep ps (λ (i : ℕ). all (suc i)))
 
 -- ---- in the order of the text, without the missing ones at the end
 
@@ -206,6 +270,13 @@ module _ (tag : Tag) (es : List Entry) where
         turned tag .order-all,
       )
 
+-- .. and the texts of it
+abbrev shownColumns : Tag → List Column
+shownColumns tag = arranged noColumn (order tag) (columns tag)
+
+abbrev shownTexts : Tag → List Entry → List (List ℕ)
+shownTexts tag es = texts (shownColumns tag) (shown tag es)
+
 module _ (tag : Tag) (es : List Entry) (size : length es ≡ length (columns tag)) where
   shown-back : arranged Missing (back tag) (shown tag es) ≡ es
   shown-back =
@@ -213,10 +284,25 @@ module _ (tag : Tag) (es : List Entry) (size : length es ≡ length (columns tag
       (present-at (arranged Missing (order tag) es))
       ∙ put-back Entry Missing es (order tag) (back tag) (rw size (turned tag))
 
+  length-columns : length (shownColumns tag) ≡ length (columns tag)
+  length-columns = length-arranged Column noColumn (order tag) (columns tag) ∙ turned tag .order-all
+
+  -- the text of field number i is that of its column
+  shown-text : (i : ℕ)
+      → getD (shownTexts tag es) i [] ≡ getD (texts (columns tag) es) (getD (order tag) i (length es)) []
+  shown-text i =
+      text-at (shownColumns tag) (shown tag es) (omega (arith, shown-few tag es, length-columns)) i
+      ∙ rw (shown-at tag es i, arranged-at Column noColumn (order tag) (columns tag) i, ← size)
+      (sym (text-at (columns tag) es (omega arith) (getD (order tag) i (length es))))
+
   -- the pieces of a line are gathered to those of the columns
-  shown-gathered : gathered tag (map entryText (shown tag es)) ≡ map entryText es
+  shown-gathered : gathered tag (shownTexts tag es) ≡ texts (columns tag) es
   shown-gathered =
-      sym (map-arranged Entry (List ℕ) entryText Missing (back tag) (shown tag es)) ∙ ap (map entryText) shown-back
+      let ps = texts (columns tag) es in
+      let all : length ps ≡ length es = length-texts (columns tag) es (omega arith) in
+      arranged-same (List ℕ) [] (back tag) (shownTexts tag es) (arranged [] (order tag) ps)
+      (λ (i : ℕ). shown-text i ∙ sym (rw (← all) (arranged-at (List ℕ) [] (order tag) ps i)))
+      ∙ put-back (List ℕ) [] ps (order tag) (back tag) (rw (all, size) (turned tag))
 
   -- what says something shows something
   shown-none : shown tag es ≡ [] → (i : ℕ) → getD es i Missing ≡ Missing
@@ -234,6 +320,8 @@ required-some : (tag : Tag) → required (columns tag) ≡ true
 required-some Pcr = refl
 required-some Hbr = refl
 required-some Sbr = refl
+required-some Wir = refl
+required-some Wrr = refl
 
 -- so what a line tells is not all missing
 never-none : {A : Type 0} (sep : ℕ) (cs : List Column) (es : List Entry) → required cs ≡ true
@@ -301,22 +389,36 @@ module _ (sep : ℕ) where
             (both-right (each (plain sep) q) (each (each (plain sep)) qs) f),
       )
 
+  -- the same of a list of them that is not empty
+  split-pieces : (ps : List (List ℕ)) → 1 ≤ length ps → each (each (plain sep)) ps ≡ true
+      → split sep (lined sep ps) ≡ ps
+  split-pieces [] some e = absurd (omega arith)
+  split-pieces (p ∷ ps) some e =
+      split-joined p ps (both-left (each (plain sep) p) (each (each (plain sep)) ps) e)
+      (both-right (each (plain sep) p) (each (each (plain sep)) ps) e)
+
+  unbroken-lined : isBreak sep ≡ false → (ps : List (List ℕ)) → each (each (plain sep)) ps ≡ true
+      → unbroken (lined sep ps) ≡ true
+  unbroken-lined other [] e = refl
+  unbroken-lined other (p ∷ ps) e =
+      unbroken-joined other p ps (both-left (each (plain sep) p) (each (each (plain sep)) ps) e)
+      (both-right (each (plain sep) p) (each (each (plain sep)) ps) e)
+
   -- fields laid out as text are the pieces joined, and LF
-  laid-joined : (cs : List Column) (e : Entry) (es : List Entry) → length (e ∷ es) ≤ length cs
-      → laid (layout.Text sep) cs (e ∷ es) ≡ joined sep (entryText e) (map entryText es) ++ lineFeed ∷ []
+  laid-lined : (cs : List Column) (e : Entry) (es : List Entry) → length (e ∷ es) ≤ length cs
+      → laid (layout.Text sep) cs (e ∷ es) ≡ lined sep (texts cs (e ∷ es)) ++ lineFeed ∷ []
   unfolding laid joined
-  laid-joined [] e es h = absurd (omega arith)
-  laid-joined (c ∷ cs) e [] h = go cs
-    where
-      go : (cs : List Column) → (entryText e ++ lineFeed ∷ []) ++ laid (layout.Text sep) cs []
-          ≡ entryText e ++ lineFeed ∷ []
-      go [] = append-nil (entryText e ++ lineFeed ∷ [])
-      go (x ∷ cs) = append-nil (entryText e ++ lineFeed ∷ [])
-  laid-joined (c ∷ cs) e (x ∷ es) h =
+  laid-lined [] e es h = absurd (omega arith)
+  laid-lined (c ∷ []) e [] h = append-nil (entryText (c .0) e ++ lineFeed ∷ [])
+  laid-lined (c ∷ d ∷ cs) e [] h = append-nil (entryText (c .0) e ++ lineFeed ∷ [])
+  laid-lined (c ∷ []) e (x ∷ es) h = absurd (omega arith)
+  laid-lined (c ∷ d ∷ cs) e (x ∷ es) h =
+      let text = entryText (c .0) e in
+      let rest = lined sep (texts (d ∷ cs) (x ∷ es)) in
       rw (
-        laid-joined cs x es (omega arith),
-        append-assoc (entryText e) (sep ∷ []) (joined sep (entryText x) (map entryText es) ++ lineFeed ∷ []),
-        append-assoc (entryText e) (sep ∷ joined sep (entryText x) (map entryText es)) (lineFeed ∷ []),
+        laid-lined (d ∷ cs) x es (omega arith),
+        append-assoc text (sep ∷ []) (rest ++ lineFeed ∷ []),
+        append-assoc text (sep ∷ rest) (lineFeed ∷ []),
       )
 
 -- ---- the whole line
@@ -352,21 +454,25 @@ unfolding tagOf
 tagged Pcr s = refl
 tagged Hbr s = refl
 tagged Sbr s = refl
+tagged Wir s = refl
+tagged Wrr s = refl
 
 behind-tag : (tag : Tag) (s : List ℕ) → drop 4 (tagText tag ++ s) ≡ s
 behind-tag Pcr s = refl
 behind-tag Hbr s = refl
 behind-tag Sbr s = refl
+behind-tag Wir s = refl
+behind-tag Wrr s = refl
 
 unbroken-tag : (tag : Tag) (s : List ℕ) → unbroken s ≡ true → unbroken (tagText tag ++ s) ≡ true
 unbroken-tag Pcr s e = e
 unbroken-tag Hbr s e = e
 unbroken-tag Sbr s e = e
+unbroken-tag Wir s e = e
+unbroken-tag Wrr s e = e
 
 some-tag : (tag : Tag) (s : List ℕ) → 1 ≤ length (tagText tag ++ s)
-some-tag Pcr s = omega arith
-some-tag Hbr s = omega arith
-some-tag Sbr s = omega arith
+some-tag tag s = omega (arith, length-append (tagText tag) s, length-tag tag)
 
 other : (sep : ℕ) → Apart sep → isBreak sep ≡ false
 other sep ok =
@@ -380,22 +486,19 @@ module _ (sep : ℕ) (ok : Apart sep) (tag : Tag) (es : List Entry) (fit : allTe
   size : length es ≡ length (columns tag)
   size = length-tell sep (columns tag) es fit
 
-  line-read : (p : Entry) (ps : List Entry) → shown tag es ≡ p ∷ ps
-      → sits Missing (columns tag) es ≡ true
-      → lineMeaningBy sep (tagText tag ++ (joined sep (entryText p) (map entryText ps) ++ lineFeed ∷ []))
+  line-read : 1 ≤ length (shown tag es) → sits Missing (columns tag) es ≡ true
+      → lineMeaningBy sep (tagText tag ++ (lined sep (shownTexts tag es) ++ lineFeed ∷ []))
       ≡ Says (record { tag = tag; entries = es })
-  line-read p ps e sat =
-      let body = joined sep (entryText p) (map entryText ps) in
-      let free = each-plain sep (shown tag es) (λ (i : ℕ). rw (shown-at tag es i)
+  line-read some sat =
+      let ps = shownTexts tag es in
+      let body = lined sep ps in
+      let plains = each-plain sep ps (λ (i : ℕ). rw (shown-text tag es size i)
       (pieces-plain sep ok (bar tag) (columns tag) es (sound tag) fit (getD (order tag) i (length es)))) in
-      let plains = rw e at free in
-      let first-plain = both-left (each (plain sep) (entryText p)) (each (each (plain sep)) (map entryText ps)) plains in
-      let rest-plain = both-right (each (plain sep) (entryText p)) (each (each (plain sep)) (map entryText ps)) plains in
-      let whole = unbroken-tag tag body
-      (unbroken-joined sep (other sep ok) (entryText p) (map entryText ps) first-plain rest-plain) in
-      let few : length (map entryText (p ∷ ps)) ≤ length (columns tag) =
-      omega (arith, shown-few tag es, ap length e, length-map (p ∷ ps) entryText) in
-      let back = rw e at (shown-gathered tag es size) in
+      let whole = unbroken-tag tag body (unbroken-lined sep (other sep ok) ps plains) in
+      let all = length-texts (shownColumns tag) (shown tag es)
+      (omega (arith, shown-few tag es, length-columns tag es size)) in
+      let few : length ps ≤ length (columns tag) = omega (arith, all, shown-few tag es) in
+      let back = shown-gathered tag es size in
       let read = pieces-read sep ok (bar tag) (columns tag) es (sound tag) fit in
       rw (
         ← append-assoc (tagText tag) body (lineFeed ∷ []),
@@ -403,10 +506,9 @@ module _ (sep : ℕ) (ok : Apart sep) (tag : Tag) (es : List Entry) (fit : allTe
         content-tagged sep (tagText tag ++ body) whole,
         tagged tag body,
         behind-tag tag body,
-        split-joined sep (entryText p) (map entryText ps) first-plain rest-plain,
+        split-pieces sep ps (omega (arith, all)) plains,
       )
-      (mean-said sep tag (entryText p ∷ map entryText ps)
-      (le-leb (length (map entryText (p ∷ ps))) (length (columns tag)) few)
+      (mean-said sep tag ps (le-leb (length ps) (length (columns tag)) few)
       (rw back (read .0)) (rw (back, read .1) sat)
       ∙ ap (λ (l : List Entry). Says (record { tag = tag; entries = l })) (rw (back, read .1)))
 
@@ -424,23 +526,31 @@ canonical-read sep separates m fit = go (shown (m .tag) (m .entries)) refl
         never-none sep (columns (m .tag)) (m .entries) (required-some (m .tag)) (fit .0)
         (shown-none (m .tag) (m .entries) all e)
     go (p ∷ ps) e =
-        let cs = arranged noColumn (order (m .tag)) (columns (m .tag)) in
-        let few : length (p ∷ ps) ≤ length cs =
+        let few : length (p ∷ ps) ≤ length (shownColumns (m .tag)) =
         omega (
           arith,
           shown-few (m .tag) (m .entries),
           ap length e,
-          length-arranged Column noColumn (order (m .tag)) (columns (m .tag)),
-          turned (m .tag) .order-all,
+          length-columns (m .tag) (m .entries) all,
         ) in
-        rw (e, laid-joined sep cs p ps few) (line-read sep ok (m .tag) (m .entries) (fit .0) p ps e (fit .1))
+        let some : 1 ≤ length (shown (m .tag) (m .entries)) = omega (arith, ap length e) in
+        rw (e, laid-lined sep (shownColumns (m .tag)) p ps few)
+        (rw e at (line-read sep ok (m .tag) (m .entries) (fit .0) some (fit .1)))
+
+pub canonical-once : CanonicalOnce
+canonical-once sep separates m m′ fit fit′ e =
+    says-same m m′
+    (sym (canonical-read sep separates m fit) ∙ ap (lineMeaningBy sep) e ∙ canonical-read sep separates m′ fit′)
 
 -- ---- what a line means can be told
 
-module _ (sep : ℕ) (ok : Apart sep) (c : Column) (table : Sane c) where
-  number-tells : (x : Numeral) → isNumber (c .0) ≡ true → numberFits (c .1) x ≡ true → tells sep c (numberIn x) ≡ true
-  number-tells (Value n) f g = rw (f, g)
-  number-tells NotANumber f g = false-true g
+module _ (sep : ℕ) (ok : Apart sep) (c : Column) (table : Sane c) (range : Ranged c) where
+  number-tells : (p : List ℕ) (x : Numeral) → numeralIn (c .0) p ≡ x → isNumber (c .0) ≡ true
+      → numberFits (c .1) x ≡ true → tells sep c (numberIn x) ≡ true
+  number-tells p (Value n) is f g =
+      let other = range .unflagged n f (numeral-least (c .0) p n is) (leb-true n (c .1) g) in
+      rw (f, g, other)
+  number-tells p NotANumber is f g = false-true g
 
   letters-allowed : (b : ℕ) (bs : List ℕ) → length (b ∷ bs) ≤ 1 → letterFits (b ∷ bs) ≡ true
       → each (allowed sep) (b ∷ bs) ≡ true
@@ -468,7 +578,7 @@ module _ (sep : ℕ) (ok : Apart sep) (c : Column) (table : Sane c) where
   piece-tells (b ∷ bs) e = go (isNumber (c .0)) refl (c .1) refl
     where
       go : (t : Bool) → isNumber (c .0) ≡ t → (n : ℕ) → c .1 ≡ n → tells sep c (valueIn c (b ∷ bs)) ≡ true
-      go true f n g = rw f (number-tells (numeral (b ∷ bs)) f (rw f at e))
+      go true f n g = rw f (number-tells (b ∷ bs) (numeralIn (c .0) (b ∷ bs)) refl f (rw f at e))
       go false f zero g = absurd (omega (arith, table .some f))
       go false f (suc n) g =
           rw f
@@ -482,7 +592,8 @@ module _ (sep : ℕ) (ok : Apart sep) where
   fields-tell k (c ∷ cs) [] table e = false-true e
   fields-tell k (c ∷ cs) (p ∷ ps) table e =
       rw (
-        piece-tells sep ok c (sane k c cs table) p (both-left (pieceFits sep c p) (fieldsFit sep cs ps) e),
+        piece-tells sep ok c (sane k c cs table) (ranged c (form-sound k c cs table)) p
+            (both-left (pieceFits sep c p) (fieldsFit sep cs ps) e),
         fields-tell (k - 1) cs ps (rest-sound k c cs table) (both-right (pieceFits sep c p) (fieldsFit sep cs ps) e),
       )
 

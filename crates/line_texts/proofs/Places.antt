@@ -13,7 +13,7 @@ use Rattle.values.specs.declared.Name.{Name}
 use Rattle.line_layouts.specs.declared.Tag.{Tag}
 use Rattle.line_layouts.specs.declared.Field.{Field}
 use Rattle.line_layouts.specs.declared.Column.{Column}
-use Rattle.line_layouts.specs.Columns.{columns, noColumn, back}
+use Rattle.line_layouts.specs.Columns.{columns, noColumn, mostColumns, back}
 use Rattle.line_layouts.specs.Entries.{Entry, named, meaningOf, noField, noFields, padded, AllWithin}
 use Rattle.line_layouts.proofs.Arranging.{length-arranged, arranged-in, arranged-at, arranged-same, map-arranged}
 use Rattle.line_layouts.proofs.Tables.{turned}
@@ -146,13 +146,13 @@ module _ (sep : ℕ) (s : List ℕ) (tag : Tag) where
   length-all = length-fields s (columns tag) (placesIn sep s tag) (length-places-in sep s tag)
 
   -- fields filled one by one, each where its column is, are those of the line
-  pub filled-all : (fs : List Field) (j : ℕ) → length (columns tag) ≤ j → length fs ≡ 7
+  pub filled-all : (fs : List Field) (j : ℕ) → length (columns tag) ≤ j → length fs ≡ mostColumns
       → ((i : ℕ) → getD fs i noField ≡ getD (take j fields) i noField)
       → record { tag = tag; fields = fs } ≡ lineIn sep s tag
   unfolding lineIn
-  filled-all fs j h seven all =
+  filled-all fs j h full all =
       ap (λ (l : List Field). record { tag = tag; fields = l })
-      (stored-all fields fs j (omega (arith, length-all)) (omega (arith, length-all, most-columns tag)) seven all)
+      (stored-all fields fs j (omega (arith, length-all)) (omega (arith, length-all, most-columns tag)) full all)
 
   module _ (long : 4 ≤ length s) where
     pub line-means : meaningOf s (lineIn sep s tag)
@@ -169,7 +169,7 @@ module _ (sep : ℕ) (s : List ℕ) (tag : Tag) where
     unfolding lineIn
     line-within =
         record {
-          seven = length-padded fields (omega (arith, length-all, most-columns tag));
+          full = length-padded fields (omega (arith, length-all, most-columns tag));
           within = λ (i : ℕ). rw (padded-at fields i)
               (fields-within s (columns tag) (placesIn sep s tag) (short-columns tag) (placed-in s sep long tag) i);
         }

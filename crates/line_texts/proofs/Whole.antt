@@ -14,7 +14,7 @@ use Rattle.prelude.proofs.Once.{equation}
 use Rattle.prelude.proofs.Never.{false-true}
 use Rattle.prelude.proofs.Both.{both-right}
 use Rattle.line_layouts.specs.declared.Tag.{Tag}
-use Rattle.line_layouts.specs.declared.Tag.the-variants.{Pcr, Hbr, Sbr}
+use Rattle.line_layouts.specs.declared.Tag.the-variants.{Pcr, Hbr, Sbr, Wir, Wrr}
 use Rattle.line_layouts.specs.declared.Tagging.{Tagging}
 use Rattle.line_layouts.specs.declared.Tagging.the-variants.{Known, Other}
 use Rattle.line_layouts.specs.declared.Said.{Said}
@@ -22,7 +22,7 @@ use Rattle.line_layouts.specs.declared.Said.the-variants as said
 use Rattle.line_layouts.specs.declared.Line.{Line}
 use Rattle.line_layouts.specs.declared.Column.{Column}
 use Rattle.line_layouts.specs.declared.Judged.{Judged}
-use Rattle.line_layouts.specs.Columns.{lineFeed, carriageReturn, tagText, columns, noColumn}
+use Rattle.line_layouts.specs.Columns.{lineFeed, carriageReturn, tagText, columns, noColumn, mostColumns}
 use Rattle.line_layouts.specs.Entries.{Entry, Missing, Meaning, entryOf, entriesOf, meaningOf, noField, isMissing}
 use Rattle.line_layouts.specs.Entries.{AllWithin}
 use Rattle.line_layouts.specs.Fitting.{isBeside, isNone, agree, sitsOne, sits}
@@ -30,8 +30,8 @@ use Rattle.line_layouts.specs.Judging.{Says, Taken}
 use Rattle.line_layouts.proofs.Laid.{said-at, length-entries}
 use Rattle.line_layouts.proofs.Faults.{taken-held}
 use Rattle.line_texts.specs.Pieces.{split, gathered, fieldsFit, entriesIn}
-use Rattle.line_texts.specs.Texts.{ending, starts, unbroken, tagOf, notALine, fieldsMean, taggedMeans, contentMeans}
-use Rattle.line_texts.specs.Texts.{fromEnd, Sited}
+use Rattle.line_texts.specs.Texts.{ending, starts, unbroken, tagAmong, tagOf, notALine, fieldsMean, taggedMeans}
+use Rattle.line_texts.specs.Texts.{contentMeans, fromEnd, Sited}
 use Rattle.line_texts.specs.Places.{lineTagged, lineOf, contentHeld}
 use Rattle.line_texts.specs.Laws.{ContentTaken, JudgedOnce}
 use Rattle.line_texts.proofs.Places.{line-means, line-within}
@@ -125,24 +125,23 @@ starts-four [] s e = omega arith
 starts-four (x ∷ t) [] e = false-true e
 starts-four (x ∷ t) (b ∷ s) e = omega (arith, starts-four t s (both-right (eqb b x) (starts t s) e))
 
-module _ (s : List ℕ) where
-  pub tag-pcr : starts (tagText Pcr) s ≡ true → Known Pcr ≡ tagOf s
-  unfolding tagOf
-  tag-pcr e = rw e
+-- the tags that are still to be tried
+pub record Untried (s : List ℕ) (tags : List Tag) : Type 0 where
+  pub is : tagOf s ≡ tagAmong tags s
 
-  module _ (p : starts (tagText Pcr) s ≡ false) where
-    pub tag-hbr : starts (tagText Hbr) s ≡ true → Known Hbr ≡ tagOf s
-    unfolding tagOf
-    tag-hbr e = rw (p, e)
+pub tags-all : (s : List ℕ) → Untried s (Pcr ∷ Hbr ∷ Sbr ∷ Wir ∷ Wrr ∷ [])
+unfolding tagOf
+tags-all s = record { is = refl }
 
-    module _ (h : starts (tagText Hbr) s ≡ false) where
-      pub tag-sbr : starts (tagText Sbr) s ≡ true → Known Sbr ≡ tagOf s
-      unfolding tagOf
-      tag-sbr e = rw (p, h, e)
+module _ {s : List ℕ} {tag : Tag} {tags : List Tag} (so-far : Untried s (tag ∷ tags)) where
+  pub tag-hit : starts (tagText tag) s ≡ true → Known tag ≡ tagOf s
+  tag-hit e = sym (so-far .is ∙ rw e)
 
-      pub tag-other : starts (tagText Sbr) s ≡ false → Other ≡ tagOf s
-      unfolding tagOf
-      tag-other e = rw (p, h, e)
+  pub tag-other : starts (tagText tag) s ≡ false → Untried s tags
+  tag-other e = record { is = so-far .is ∙ rw e }
+
+pub tag-none : {s : List ℕ} → Untried s [] → Other ≡ tagOf s
+tag-none so-far = sym (so-far .is)
 
 -- ---- a field beside another, wherever it stands
 
@@ -182,14 +181,15 @@ Sitting line j gone =
 pub sitting-first : (line : Line) → Sitting line 0 true
 sitting-first line source = (refl, refl)
 
-module _ (line : Line) (seven : length (line .fields) ≡ 7) (j : ℕ) (gone : Bool) (so-far : Sitting line j gone) where
+module _ (line : Line) (full : length (line .fields) ≡ mostColumns) (j : ℕ) (gone : Bool)
+    (so-far : Sitting line j gone) where
   abbrev none : Bool
   none = isMissing (getD (line .fields) j noField .said)
 
   module _ (h : j < length (columns (line .tag))) (source : List ℕ) where
     none-at : isNone (getD (entriesOf source line) j Missing) ≡ none
     none-at =
-        ap isNone (said-at source line seven j h) ∙ none-missing source (getD (line .fields) j noField .said)
+        ap isNone (said-at source line full j h) ∙ none-missing source (getD (line .fields) j noField .said)
 
     one-at : sitsOne (getD (columns (line .tag)) j noColumn) (lastOf (entriesOf source line) j)
         (getD (entriesOf source line) j Missing)
@@ -197,7 +197,7 @@ module _ (line : Line) (seven : length (line .fields) ≡ 7) (j : ℕ) (gone : B
     one-at = rw (← so-far source .0, none-at)
 
     inside : j < length (entriesOf source line)
-    inside = omega (arith, length-entries source line seven)
+    inside = omega (arith, length-entries source line full)
 
   module _ (h : j < length (columns (line .tag))) where
     pub sitting-no : (not (isBeside (getD (columns (line .tag)) j noColumn .3)) || agree gone none) ≡ false
@@ -228,7 +228,7 @@ module _ (line : Line) (seven : length (line .fields) ≡ 7) (j : ℕ) (gone : B
 pub not-said : {A : Type 0} (m : Meaning) → notALine ≡ Says m → A
 not-said m e = let never : _≡_ {A = ℕ} 0 1 = cc in absurd (omega arith)
 
-says-same : (m m′ : Meaning) → Says m ≡ Says m′ → m ≡ m′
+pub says-same : (m m′ : Meaning) → Says m ≡ Says m′ → m ≡ m′
 says-same m m′ e = cc
 
 module _ (sep : ℕ) (tag : Tag) (ps : List (List ℕ)) where
@@ -279,19 +279,24 @@ module _ (sep : ℕ) (s : List ℕ) where
   unfolding contentMeans
   content-tagged e = rw e
 
-module _ (s : List ℕ) where
-  pub tag-four : (tag : Tag) → tagOf s ≡ Known tag → 4 ≤ length s
-  tag-four tag e = go (starts (tagText Pcr) s) refl (starts (tagText Hbr) s) refl (starts (tagText Sbr) s) refl
-    where
-      never : Other ≡ Known tag → 4 ≤ length s
-      never f = let no : _≡_ {A = ℕ} 0 1 = cc in absurd (omega arith)
+pub length-tag : (tag : Tag) → length (tagText tag) ≡ 4
+length-tag Pcr = refl
+length-tag Hbr = refl
+length-tag Sbr = refl
+length-tag Wir = refl
+length-tag Wrr = refl
 
-      go : (p : Bool) → starts (tagText Pcr) s ≡ p → (h : Bool) → starts (tagText Hbr) s ≡ h
-          → (b : Bool) → starts (tagText Sbr) s ≡ b → 4 ≤ length s
-      go true i h j b k = starts-four (tagText Pcr) s i
-      go false i true j b k = starts-four (tagText Hbr) s j
-      go false i false j true k = starts-four (tagText Sbr) s k
-      go false i false j false k = never (tag-other s i j k ∙ e)
+module _ (s : List ℕ) (tag : Tag) where
+  among-four : (tags : List Tag) → tagAmong tags s ≡ Known tag → 4 ≤ length s
+  among-four [] e = let no : _≡_ {A = ℕ} 0 1 = cc in absurd (omega arith)
+  among-four (t ∷ tags) e = go (among-four tags) (starts (tagText t) s) refl
+    where
+      go : (tagAmong tags s ≡ Known tag → 4 ≤ length s) → (u : Bool) → starts (tagText t) s ≡ u → 4 ≤ length s
+      go later true f = omega (arith, starts-four (tagText t) s f, length-tag t)
+      go later false f = later (rw f at e)
+
+  pub tag-four : tagOf s ≡ Known tag → 4 ≤ length s
+  tag-four e = let all = tags-all s in among-four (Pcr ∷ Hbr ∷ Sbr ∷ Wir ∷ Wrr ∷ []) (sym (all .is) ∙ e)
 
 -- ---- what this code holds of it
 

@@ -5,30 +5,26 @@
 --   TellingBy      a meaning that some line has
 --   CanonicalRead  the canonical line of such a meaning means it
 --   ReadTells      what any line means is such a meaning
+--   CanonicalOnce  so no two such meanings have one line
 --   ReadAgain      so any line that is read means what its canonical line means
 --   ContentTaken   what this code holds of a line means what the line means, by bytes that are there
 --   JudgedOnce     and nothing of it is left open
 -- Assumes nothing.
 use mathlib.Core.Path.{_≡_}
-use mathlib.Core.Bool.{Bool, true, false, not, _&&_}
+use mathlib.Core.Bool.{Bool, true, false, _&&_}
 use mathlib.Core.List.{List, [], _∷_}
 use Prim.Native.Nat.{ℕ}
 use Rattle.prelude.specs.Once.{Once}
 use Rattle.line_layouts.specs.declared.Column.{Column}
 use Rattle.line_layouts.specs.Columns.{separator, columns}
 use Rattle.line_layouts.specs.Names.{entryAllowed, separates}
-use Rattle.line_layouts.specs.Entries.{Entry, Missing, Number, Text, Meaning}
+use Rattle.line_layouts.specs.Entries.{Entry, Missing, Meaning}
 use Rattle.line_layouts.specs.Layouts.{textBy, textOf}
-use Rattle.line_layouts.specs.Fitting.{entryFits, sits}
+use Rattle.line_layouts.specs.Fitting.{entryFits, sits, given}
 use Rattle.line_layouts.specs.declared.Judged.{Judged}
 use Rattle.line_layouts.specs.Judging.{Says, Taken}
 use Rattle.line_texts.specs.Texts.{contentMeans, lineMeaningBy, lineMeaning}
 use Rattle.line_texts.specs.Places.{contentHeld}
-
-abbrev pub given : Column → Entry → Bool
-given c Missing = not (c .2)
-given c (Number n) = true
-given c (Text bytes) = true
 
 abbrev pub tells : ℕ → Column → Entry → Bool
 tells sep c e = entryFits c e && (given c e && entryAllowed sep e)
@@ -54,6 +50,10 @@ CanonicalRead = (sep : ℕ) → separates sep ≡ true → (m : Meaning) → Tel
 abbrev pub ReadTells : Type 0
 ReadTells = (sep : ℕ) → separates sep ≡ true → (line : List ℕ) (m : Meaning) → lineMeaningBy sep line ≡ Says m
     → TellingBy sep m
+
+abbrev pub CanonicalOnce : Type 0
+CanonicalOnce = (sep : ℕ) → separates sep ≡ true → (m m′ : Meaning) → TellingBy sep m → TellingBy sep m′
+    → textBy sep m ≡ textBy sep m′ → m ≡ m′
 
 abbrev pub ReadAgain : Type 0
 ReadAgain = (line : List ℕ) (m : Meaning) → lineMeaning line ≡ Says m → lineMeaning (textOf m) ≡ Says m

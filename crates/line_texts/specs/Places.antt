@@ -16,7 +16,6 @@ use lib.Dec.{leb, ltb}
 use lib.ListN.{length, getD, drop}
 use Rattle.digits.specs.declared.Numeral.{Numeral}
 use Rattle.digits.specs.declared.Numeral.the-variants.{Value, NotANumber}
-use Rattle.digits.specs.Digits.{numeral}
 use Rattle.output.specs.Placed.{part}
 use Rattle.values.specs.declared.Name.{Name}
 use Rattle.line_layouts.specs.declared.Tag.{Tag}
@@ -35,7 +34,7 @@ use Rattle.line_layouts.specs.Fitting.{isNumber}
 use Rattle.line_layouts.specs.Judging.{noLine, heldBy}
 use Rattle.line_texts.specs.declared.Piece.{Piece}
 use Rattle.line_texts.specs.declared.Cut.{Cut}
-use Rattle.line_texts.specs.Pieces.{split}
+use Rattle.line_texts.specs.Pieces.{split, numeralIn}
 use Rattle.line_texts.specs.Texts.{tagOf, contentMeans}
 
 -- ---- the places of pieces
@@ -68,7 +67,7 @@ textSaid at len most = said.Text (record { at = at; len = min len most })
 unfoldable pub saidIn : Column → ℕ → List ℕ → Said
 saidIn c at [] = said.Missing
 saidIn c at (b ∷ bs) =
-    cond (isNumber (c .0)) (numberSaid (numeral (b ∷ bs))) (textSaid at (length (b ∷ bs)) (c .1))
+    cond (isNumber (c .0)) (numberSaid (numeralIn (c .0) (b ∷ bs))) (textSaid at (length (b ∷ bs)) (c .1))
 
 unfoldable pub fieldsIn : List ℕ → List Column → List Name → List Field
 fieldsIn s [] ns = []

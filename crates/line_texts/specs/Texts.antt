@@ -1,9 +1,9 @@
--- What a line means. Document 01, "Count lines", Read.
+-- What a line means. Document 01, "Count lines", Read; #103, WIR and WRR lines.
 --
 --   content       a line without its ending
 --   unbroken      no CR or LF is left
 --   tagOf         which line it is
---   lineMeaningBy what a line means, or that it is no count line: 18; the first argument is the separator
+--   lineMeaningBy what a line means, or that it is none: 18; the first argument is the separator
 --   lineMeaning   .. where it is `|`
 -- Assumes nothing.
 use mathlib.Core.Path.{_≡_}
@@ -16,7 +16,7 @@ use Rattle.prelude.specs.Choice.{_unless_then_}
 use Rattle.prelude.specs.Each.{each}
 use Rattle.answers.specs.declared.Answer.the-variants.{NotACountLine}
 use Rattle.line_layouts.specs.declared.Tag.{Tag}
-use Rattle.line_layouts.specs.declared.Tag.the-variants.{Pcr, Hbr, Sbr}
+use Rattle.line_layouts.specs.declared.Tag.the-variants.{Pcr, Hbr, Sbr, Wir, Wrr}
 use Rattle.line_layouts.specs.declared.Line.{Line}
 use Rattle.line_layouts.specs.Columns.{separator, lineFeed, carriageReturn, tagText, columns}
 use Rattle.line_layouts.specs.Entries.{Missing, entriesOf}
@@ -50,11 +50,13 @@ starts [] s = true
 starts (t ∷ ts) [] = false
 starts (t ∷ ts) (b ∷ bs) = eqb b t && starts ts bs
 
+abbrev pub tagAmong : List Tag → List ℕ → Tagging
+tagAmong [] s = Other
+tagAmong (tag ∷ tags) s = cond (starts (tagText tag) s) (Known tag) (tagAmong tags s)
+
 -- so a space at the start of the line, and any other text there, is 18
 unfoldable pub tagOf : List ℕ → Tagging
-tagOf s =
-    cond (starts (tagText Pcr) s) (Known Pcr)
-    (cond (starts (tagText Hbr) s) (Known Hbr) (cond (starts (tagText Sbr) s) (Known Sbr) Other))
+tagOf s = tagAmong (Pcr ∷ Hbr ∷ Sbr ∷ Wir ∷ Wrr ∷ []) s
 
 abbrev pub notALine : Judging
 notALine = Faulty NotACountLine

@@ -23,6 +23,7 @@ ghost use mathlib.Core.List.{[], _∷_};
 ghost use Prim.Native.Nat.{_-_, _≤_};
 ghost use lib.ListN.{length, drop};
 ghost use Rattle.line_texts.specs.Pieces.{split};
+ghost use Rattle.line_layouts.specs.Columns.{mostColumns};
 ghost use Rattle.line_layouts.specs.Fitting.{isBeside, agree};
 ghost use Rattle.line_layouts.specs.Judging.{heldBy};
 ghost use Rattle.line_texts.specs.Texts.{isBreak, ending, unbroken, starts, tagOf, fieldsMean};
@@ -107,6 +108,12 @@ fn tag_of(s: &[u8]) -> Tagging
     if is_tag(s, b'S', b'B', b'R', b':') {
         return Tagging::Known(Tag::Sbr);
     }
+    if is_tag(s, b'W', b'I', b'R', b':') {
+        return Tagging::Known(Tag::Wir);
+    }
+    if is_tag(s, b'W', b'R', b'R', b':') {
+        return Tagging::Known(Tag::Wrr);
+    }
     Tagging::Other
 }
 
@@ -122,7 +129,7 @@ fn sits_at(column: Column, gone: bool, none: bool) -> bool
 }
 
 fn sites_fit(line: Line) -> bool
-    requires { ⌜ length (line .fields) ≡ 7 ⌝ }
+    requires { ⌜ length (line .fields) ≡ mostColumns ⌝ }
     ensures { λ r. ⌜ Sited line r ⌝ }
 {
     let tag = line.tag;

@@ -1,4 +1,4 @@
-// A count line taken apart: document 01, "Count lines", Read.
+// A line taken apart: document 01, "Count lines", Read; #103, WIR and WRR lines.
 pub mod contents;
 mod pieces;
 
@@ -13,6 +13,6 @@ pub struct Piece {
 
 // A text behind its tag, cut into as many pieces as the tag has columns; whether there are more.
 pub struct Cut {
-    pub places: [Name; 7],
+    pub places: [Name; 14],
     pub more: bool,
 }

@@ -1,9 +1,11 @@
 // The fields of a line, one piece of text each.
 use super::Cut;
 use super::Piece;
+use dates::Dated;
 use digits::Numeral;
 use line_layouts::Column;
 use line_layouts::Field;
+use line_layouts::Form;
 use line_layouts::Line;
 use line_layouts::Said;
 use line_layouts::Tag;
@@ -12,23 +14,44 @@ use line_layouts::columns::column_at;
 use line_layouts::columns::column_count;
 use line_layouts::forms::is_name;
 use line_layouts::forms::is_number;
+use line_layouts::forms::is_time;
 use line_layouts::names::part_allowed;
 use values::Name;
 ghost use mathlib.Core.Path.{_≡_};
 ghost use mathlib.Core.Bool.{true};
 ghost use Prim.Native.Nat.{_+_, _≤_, _<_, min};
 ghost use lib.ListN.{length, getD, drop};
-ghost use Rattle.digits.specs.Digits.{numeral};
+ghost use Rattle.dates.specs.Reading.{dateOf};
 ghost use Rattle.output.specs.Placed.{part};
 ghost use Rattle.line_layouts.specs.Columns.{columns, back};
 ghost use Rattle.line_layouts.specs.Fitting.{letterFits};
-ghost use Rattle.line_texts.specs.Pieces.{split, gathered, numberFits, valueFits, pieceFits, fieldsFit};
+ghost use Rattle.line_texts.specs.Pieces.{split, gathered, datedNumeral, numeralIn};
+ghost use Rattle.line_texts.specs.Pieces.{numberFits, valueFits, pieceFits, fieldsFit};
 ghost use Rattle.line_texts.specs.Places.{noPlace, numberSaid, saidIn, lineIn, Ends, Next, CutAt};
 
-fn number_fits(piece: &[u8], most: u32) -> bool
-    ensures { λ r. ⌜ r ≡ numberFits most (numeral (now (piece .entry))) ⌝ }
+fn date_in(piece: &[u8]) -> Numeral
+    ensures { λ r. ⌜ r ≡ datedNumeral (dateOf (now (piece .entry))) ⌝ }
 {
-    match digits::read_number(piece) {
+    match dates::read_date(piece) {
+        Dated::Time(t) => Numeral::Value(t as u64),
+        Dated::NotADate => Numeral::NotANumber,
+    }
+}
+
+// The number that a piece says: a date's seconds, or what its digits are worth.
+fn numeral_in(form: Form, piece: &[u8]) -> Numeral
+    ensures { λ r. ⌜ r ≡ numeralIn form (now (piece .entry)) ⌝ }
+{
+    if is_time(form) {
+        return date_in(piece);
+    }
+    digits::read_number(piece)
+}
+
+fn number_fits(form: Form, piece: &[u8], most: u32) -> bool
+    ensures { λ r. ⌜ r ≡ numberFits most (numeralIn form (now (piece .entry))) ⌝ }
+{
+    match numeral_in(form, piece) {
         Numeral::Value(n) => n <= most as u64,
         Numeral::NotANumber => false,
     }
@@ -52,7 +75,7 @@ fn value_fits(sep: u8, column: Column, piece: &[u8]) -> bool
 {
     let form = column.0;
     if is_number(form) {
-        return number_fits(piece, column.1);
+        return number_fits(form, piece, column.1);
     }
     if is_name(form) {
         return part_allowed(sep, piece, 0, piece.len());
@@ -125,7 +148,7 @@ pub fn cut(text: &[u8], sep: u8, tag: Tag) -> Cut
 {
     let count = column_count(tag);
     let none = Name { at: 0, len: 0 };
-    let mut places = [none; 7];
+    let mut places = [none; 14];
     let mut from: usize = 4;
     let mut more = true;
     let mut j: usize = 0;
@@ -175,11 +198,11 @@ pub fn fields_fit(text: &[u8], sep: u8, tag: Tag, cut: Cut) -> bool
     true
 }
 
-fn number_said(text: &[u8], most: u32) -> Said
-    requires { ⌜ numberFits most (numeral (now text)) ≡ true ⌝ }
-    ensures { λ r. ⌜ r ≡ numberSaid (numeral (now (text .entry))) ⌝ }
+fn number_said(form: Form, text: &[u8], most: u32) -> Said
+    requires { ⌜ numberFits most (numeralIn form (now text)) ≡ true ⌝ }
+    ensures { λ r. ⌜ r ≡ numberSaid (numeralIn form (now (text .entry))) ⌝ }
 {
-    match digits::read_number(text) {
+    match numeral_in(form, text) {
         Numeral::Value(n) => Said::Number(n as u32),
         Numeral::NotANumber => Said::Missing,
     }
@@ -202,7 +225,7 @@ fn said_in(sep: u8, column: Column, text: &[u8], at: usize, len: usize) -> Said
     let form = column.0;
     if is_number(form) {
         let end = at + len;
-        return number_said(&text[at..end], column.1);
+        return number_said(form, &text[at..end], column.1);
     }
     Said::Text(Name {
         at,
@@ -220,7 +243,7 @@ pub fn fill(text: &[u8], sep: u8, tag: Tag, cut: Cut) -> Line
     let none = Field {
         said: Said::Missing,
     };
-    let mut fields = [none; 7];
+    let mut fields = [none; 14];
     let mut j: usize = 0;
     while j < count {
         let place = place_of(cut, tag, j);

@@ -18,13 +18,14 @@ use Rattle.line_layouts.specs.Columns.{separator}
 use Rattle.line_layouts.proofs.Tables.{bar-separates}
 use Rattle.line_texts.proofs.Canonical.{canonical-read}
 use Rattle.lines.specs.Laws.{WrittenOnce, ReadOnce, WrittenRead, WrittenMost, RecordRead}
-use Rattle.lines.specs.Laws.{ThereAndBack, OtherOrder, BackAgain, Endings, LongestLine}
-use Rattle.lines.specs.Laws.{WriteRefused, ReadRefused}
+use Rattle.lines.specs.Laws.{ThereAndBack, OtherOrder, BackAgain, Endings, LongestLine, RecordMost}
+use Rattle.lines.specs.Laws.{LongestRecord, WriteRefused, ReadRefused}
 use Rattle.lines.proofs.Most.{text-most}
 use Rattle.lines.proofs.Made as made
 use Rattle.lines.proofs.Rounds as rounds
 use Rattle.lines.proofs.Endings as ending
 use Rattle.lines.proofs.Longest as longest
+use Rattle.lines.proofs.Bodies as bodies
 
 pub written-once : WrittenOnce
 written-once cpu s old at = equation Outcome (lineWritten cpu s old at)
@@ -55,6 +56,12 @@ endings = ending.endings
 
 pub longest-line : LongestLine
 longest-line = longest.longest-line
+
+pub record-most : RecordMost
+record-most = bodies.record-most
+
+pub longest-record : LongestRecord
+longest-record = bodies.longest-record
 
 -- ---- a refusal
 

@@ -16,17 +16,17 @@ use Rattle.kinds.proofs.Laws.{each-pair-its-kind}
 use Rattle.frames.specs.Frames.{recTyp, recSub, body, isRecord}
 use Rattle.frames.proofs.Laws.{record-framed}
 use Rattle.line_layouts.specs.declared.Tag.{Tag}
-use Rattle.line_layouts.specs.declared.Tag.the-variants.{Pcr, Hbr, Sbr}
+use Rattle.line_layouts.specs.declared.Tag.the-variants.{Pcr, Hbr, Sbr, Wir, Wrr}
 use Rattle.line_layouts.specs.declared.Tagging.the-variants.{Known}
 use Rattle.line_layouts.specs.declared.Layout.the-variants as layout
-use Rattle.line_layouts.specs.Columns.{countType, subOf, columns, bar}
+use Rattle.line_layouts.specs.Columns.{typeOf, subOf, columns, bar}
 use Rattle.line_layouts.specs.Entries.{Meaning}
 use Rattle.line_layouts.specs.Layouts.{fieldsOf, recordOf}
 use Rattle.line_layouts.specs.Fitting.{Fitting}
 use Rattle.line_layouts.specs.Judging.{Says}
 use Rattle.line_layouts.proofs.Laid.{most-columns}
 use Rattle.line_layouts.proofs.Tables.{sound}
-use Rattle.line_records.specs.Records.{countTag, bodyMeans, taggedMeans, meaning}
+use Rattle.line_records.specs.Records.{countTag, meaning}
 use Rattle.line_records.proofs.Records.{stored-meant, stored-short}
 use Rattle.line_records.proofs.Judges.{meaning-tagged}
 
@@ -56,10 +56,12 @@ framed-body HighFirst typ sub b = refl
 framed-body LowFirst typ sub b = refl
 
 -- the kind of a line's record has that line
-tag-kind : (tag : Tag) → countTag (kindOf countType (subOf tag)) ≡ Known tag
+tag-kind : (tag : Tag) → countTag (kindOf (typeOf tag) (subOf tag)) ≡ Known tag
 tag-kind Pcr = ap countTag (each-pair-its-kind 4 (omega arith))
 tag-kind Hbr = ap countTag (each-pair-its-kind 5 (omega arith))
 tag-kind Sbr = ap countTag (each-pair-its-kind 6 (omega arith))
+tag-kind Wir = ap countTag (each-pair-its-kind 12 (omega arith))
+tag-kind Wrr = ap countTag (each-pair-its-kind 13 (omega arith))
 
 -- ---- the record
 
@@ -67,17 +69,17 @@ pub record-read : (order : Order) (m : Meaning) → Fitting m → meaning order 
 record-read order m fit =
     let tag = m .tag in
     let b = fieldsOf (layout.Record order) m in
-    let s = framed order countType (subOf tag) b in
+    let s = framed order (typeOf tag) (subOf tag) b in
     let small : length b < 65536 =
     omega (
       arith,
       stored-short order (bar tag) (columns tag) (m .entries) (sound tag) (fit .0),
       most-columns tag,
     ) in
-    meaning-tagged order s (framed-record order countType (subOf tag) b small)
+    meaning-tagged order s (framed-record order (typeOf tag) (subOf tag) b small)
     ∙ rw (
-      framed-kind order countType (subOf tag) b,
-      framed-body order countType (subOf tag) b,
+      framed-kind order (typeOf tag) (subOf tag) b,
+      framed-body order (typeOf tag) (subOf tag) b,
       tag-kind tag,
       stored-meant order m fit,
     )

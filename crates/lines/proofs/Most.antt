@@ -12,16 +12,21 @@ use Rattle.prelude.proofs.Never.{false-true}
 use Rattle.prelude.proofs.Both.{both-left, both-right}
 use Rattle.digits.specs.Digits.{digits}
 use Rattle.digits.proofs.Laws.{by-quotient, length-one, length-more, digits-some}
+use Rattle.dates.proofs.Laws.{date-size}
 use Rattle.line_layouts.specs.declared.Tag.{Tag}
-use Rattle.line_layouts.specs.declared.Tag.the-variants.{Pcr, Hbr, Sbr}
+use Rattle.line_layouts.specs.declared.Tag.the-variants.{Pcr, Hbr, Sbr, Wir, Wrr}
+use Rattle.line_layouts.specs.declared.Form.{Form}
+use Rattle.line_layouts.specs.declared.Form.the-variants.{U1, U2, U4, Time, C1, Cn}
 use Rattle.line_layouts.specs.declared.Column.{Column}
 use Rattle.line_layouts.specs.declared.Layout.the-variants as layout
 use Rattle.line_layouts.specs.Arranging.{arranged, allBelow}
 use Rattle.line_layouts.specs.Columns.{tagText, columns, noColumn, order}
 use Rattle.line_layouts.specs.Entries.{Entry, Missing, Number, Text, Meaning, kept, present}
-use Rattle.line_layouts.specs.Layouts.{isName, entryText, mark, isLast, laid, textBy}
-use Rattle.line_layouts.specs.Fitting.{isNumber, letterFits, entryFits, entriesFit, Fitting}
+use Rattle.line_layouts.specs.Layouts.{isName, isTime, entryText, mark, isLast, laid, textBy}
+use Rattle.line_layouts.specs.Fitting.{isNumber, isFlag, letterFits, entryFits, entriesFit, Fitting}
 use Rattle.line_layouts.proofs.Tables.{turned}
+use Rattle.line_texts.proofs.Whole.{length-tag}
+use Rattle.lines.specs.Laws.{mostText}
 
 -- a greater number has no fewer digits
 digits-rising : (m n : ℕ) → n ≤ m → length (digits n) ≤ length (digits m)
@@ -37,21 +42,38 @@ digits-rising =
         let ten = ltb-false n 10 e in
         omega (arith, length-more n ten, length-more m large, more (n / 10) (omega arith))
 
--- the longest text of a column
+-- the longest text of a column; a date has at most 20 bytes
 abbrev most : Column → ℕ
-most c = cond (isNumber (c .0)) (length (digits (c .1))) (c .1)
+most c = cond (isTime (c .0)) 20 (cond (isNumber (c .0)) (length (digits (c .1))) (c .1))
 
-entry-most : (c : Column) (e : Entry) → entryFits c e ≡ true → length (entryText e) ≤ most c
+text-untimed : (form : Form) → isNumber form ≡ false → isTime form ≡ false
+text-untimed U1 f = refl
+text-untimed U2 f = refl
+text-untimed U4 f = refl
+text-untimed Time f = f
+text-untimed C1 f = refl
+text-untimed Cn f = refl
+
+entry-most : (c : Column) (e : Entry) → entryFits c e ≡ true → length (entryText (c .0) e) ≤ most c
 entry-most c Missing e = omega arith
-entry-most c (Number n) e =
-    rw (both-left (isNumber (c .0)) (leb n (c .1)) e)
-    (digits-rising (c .1) n (leb-true n (c .1) (both-right (isNumber (c .0)) (leb n (c .1)) e)))
+entry-most c (Number n) e = go (isTime (c .0)) refl
+  where
+    plain : Bool
+    plain = not (isFlag (c .0) (c .3) n)
+
+    small : n ≤ c .1
+    small = leb-true n (c .1) (both-left (leb n (c .1)) plain (both-right (isNumber (c .0)) (leb n (c .1) && plain) e))
+
+    go : (t : Bool) → isTime (c .0) ≡ t → length (entryText (c .0) (Number n)) ≤ most c
+    go true f = rw f (date-size n .1)
+    go false f = rw (f, both-left (isNumber (c .0)) (leb n (c .1) && plain) e) (digits-rising (c .1) n small)
 entry-most c (Text []) e = false-true e
 entry-most c (Text (b ∷ bs)) e =
     let rule = isName (c .0) || letterFits (b ∷ bs) in
     let size = leb (length (b ∷ bs)) (c .1) in
     let f = not-true (isNumber (c .0)) (both-left (not (isNumber (c .0))) (size && rule) e) in
-    rw f (leb-true (length (b ∷ bs)) (c .1) (both-left size rule (both-right (not (isNumber (c .0))) (size && rule) e)))
+    rw (text-untimed (c .0) f, f)
+    (leb-true (length (b ∷ bs)) (c .1) (both-left size rule (both-right (not (isNumber (c .0))) (size && rule) e)))
 
 module _ (sep : ℕ) where
   abbrev laidText : List Column → List Entry → List ℕ
@@ -59,11 +81,11 @@ module _ (sep : ℕ) where
 
   -- a field, then the rest
   laid-cons : (c : Column) (cs : List Column) (e : Entry) (es : List Entry)
-      → length (laidText (c ∷ cs) (e ∷ es)) ≡ length (entryText e) + 1 + length (laidText cs es)
+      → length (laidText (c ∷ cs) (e ∷ es)) ≡ length (entryText (c .0) e) + 1 + length (laidText cs es)
   unfolding laid
   laid-cons c cs e es =
-      length-append (entryText e ++ mark sep (isLast es) ∷ []) (laidText cs es)
-      ∙ omega (arith, length-append (entryText e) (mark sep (isLast es) ∷ []))
+      length-append (entryText (c .0) e ++ mark sep (isLast es) ∷ []) (laidText cs es)
+      ∙ omega (arith, length-append (entryText (c .0) e) (mark sep (isLast es) ∷ []))
 
   laid-none : (cs : List Column) → laidText cs [] ≡ []
   unfolding laid
@@ -71,7 +93,7 @@ module _ (sep : ℕ) where
   laid-none (c ∷ cs) = refl
 
   laid-kept : (c : Column) (cs : List Column) (e : Entry) (es : List Entry)
-      → length (laidText (c ∷ cs) (kept 0 e es)) ≤ length (entryText e) + 1 + length (laidText cs es)
+      → length (laidText (c ∷ cs) (kept 0 e es)) ≤ length (entryText (c .0) e) + 1 + length (laidText cs es)
   laid-kept c cs Missing [] = omega (arith, ap length (laid-none (c ∷ cs)))
   laid-kept c cs Missing (x ∷ es) = omega (arith, laid-cons c cs Missing (x ∷ es))
   laid-kept c cs (Number n) es = omega (arith, laid-cons c cs (Number n) es)
@@ -117,18 +139,15 @@ module _ (cs : List Column) (es : List Entry) (fit : entriesFit cs es ≡ true) 
 abbrev texted : Tag → List Column
 texted tag = arranged noColumn (order tag) (columns tag)
 
-total-most : (tag : Tag) → total (texted tag) ≤ 283
+total-most : (tag : Tag) → 4 + total (texted tag) ≤ mostText tag
 unfolding digits
-total-most Pcr = leb-true (total (texted Pcr)) 283 refl
-total-most Hbr = leb-true (total (texted Hbr)) 283 refl
-total-most Sbr = leb-true (total (texted Sbr)) 283 refl
+total-most Pcr = leb-true (4 + total (texted Pcr)) (mostText Pcr) refl
+total-most Hbr = leb-true (4 + total (texted Hbr)) (mostText Hbr) refl
+total-most Sbr = leb-true (4 + total (texted Sbr)) (mostText Sbr) refl
+total-most Wir = leb-true (4 + total (texted Wir)) (mostText Wir) refl
+total-most Wrr = leb-true (4 + total (texted Wrr)) (mostText Wrr) refl
 
-tag-size : (tag : Tag) → length (tagText tag) ≡ 4
-tag-size Pcr = refl
-tag-size Hbr = refl
-tag-size Sbr = refl
-
-pub text-most : (sep : ℕ) (m : Meaning) → Fitting m → length (textBy sep m) ≤ 287
+pub text-most : (sep : ℕ) (m : Meaning) → Fitting m → length (textBy sep m) ≤ mostText (m .tag)
 text-most sep m fit =
     let tag = m .tag in
     let cs = texted tag in
@@ -136,7 +155,7 @@ text-most sep m fit =
     omega (
       arith,
       length-append (tagText tag) (laidText sep cs (present 0 es)),
-      tag-size tag,
+      length-tag tag,
       laid-most sep cs es (fit-arranged (columns tag) (m .entries) (fit .0) (order tag) (turned tag .order-in)),
       total-most tag,
     )

@@ -11,7 +11,7 @@ use Rattle.prelude.specs.Choice.{_unless_then_}
 use Rattle.prelude.specs.Checks.{Check, _else_, numberBy}
 use Rattle.prelude.specs.Each.{each}
 use Rattle.prelude.proofs.Checks.{choice-by}
-use Rattle.answers.specs.declared.Answer.the-variants.{OutputTooShort, NameNotText}
+use Rattle.answers.specs.declared.Answer.the-variants.{OutputTooShort, NameNotText, NoTime}
 use Rattle.numbers.specs.declared.Order.{Order}
 use Rattle.numbers.specs.declared.Ordering.{Ordering}
 use Rattle.numbers.specs.declared.Ordering.the-variants as ordering
@@ -33,7 +33,7 @@ use Rattle.line_layouts.specs.Columns.{separator, columns}
 use Rattle.line_layouts.specs.Entries.{Entry, Missing, Meaning}
 use Rattle.line_layouts.specs.Layouts.{textBy, textOf, recordOf}
 use Rattle.line_layouts.specs.Names.{entryAllowed}
-use Rattle.line_layouts.specs.Fitting.{sits}
+use Rattle.line_layouts.specs.Fitting.{sits, allGiven}
 use Rattle.line_layouts.specs.Judging.{Judging, Says, Faulty}
 use Rattle.line_records.specs.Walks.{Fit, Fits, Misfit, meant}
 use Rattle.line_records.specs.Laws.{isFit, kindFor}
@@ -45,7 +45,8 @@ use Rattle.line_texts.specs.Texts.{content, unbroken, tagOf, notALine, contentM
 use Rattle.line_texts.specs.Texts as texts
 use Rattle.lines.specs.Writing.{textIn, textMade}
 use Rattle.lines.specs.Reading.{recordIn, recordMade}
-use Rattle.lines.specs.Numbers.{writtenNumber, orderFirst, hasLine, isSaid, namesAllowed, hasRoom}
+use Rattle.lines.specs.Numbers.{writtenNumber, orderFirst, hasLine, isSaid, timesGiven, namesAllowed}
+use Rattle.lines.specs.Numbers.{hasRoom}
 use Rattle.lines.specs.Numbers.{writeChecks, readChecks, WriteNumber, ReadNumber}
 
 -- ---- 17
@@ -70,14 +71,15 @@ order-number : (number : Ordering → ℕ) (checks : Order → List (Check ℕ))
 order-number number checks none told ordering.Unknown = none
 order-number number checks none told (ordering.Known order) = told order
 
--- ---- writing: 19, 7, 6, 3
+-- ---- writing: 19, 21, 7, 6, 3
 
 module _ (order : Order) (old : List ℕ) (at : ℕ) where
   abbrev number : Judging → ℕ
   number j = writtenNumber (placed (textMade separator j) old at .answer)
 
   abbrev last : Judging → List (Check ℕ)
-  last j = (namesAllowed j else 19) ∷ (hasRoom (layout.Text separator) j old at else 17) ∷ []
+  last j =
+      (timesGiven j else 21) ∷ (namesAllowed j else 19) ∷ (hasRoom (layout.Text separator) j old at else 17) ∷ []
 
   names-number : (m : Meaning) (t : Bool)
       → writtenNumber (placed (Refuses NameNotText unless t then Makes (textBy separator m)) old at .answer)
@@ -85,10 +87,19 @@ module _ (order : Order) (old : List ℕ) (at : ℕ) where
   names-number m true = placed-number (textOf m) old at
   names-number m false = refl
 
+  times-number : (m : Meaning) (t u : Bool)
+      → writtenNumber
+      (placed (Refuses NoTime unless t then Refuses NameNotText unless u then Makes (textBy separator m)) old at
+      .answer)
+      ≡ numberBy ((t else 21) ∷ (u else 19) ∷ (hasRoom (layout.Text separator) (Says m) old at else 17) ∷ [])
+  times-number m true u = names-number m u
+  times-number m false u = refl
+
   fit-number : (tag : Tag) (r : Fit (List Entry))
       → number (bodyMeans tag r) ≡ numberBy ((isFit r else 7) ∷ last (bodyMeans tag r))
   fit-number tag (Fits es) =
-      names-number (record { tag = tag; entries = es }) (each (entryAllowed separator) es)
+      times-number (record { tag = tag; entries = es }) (allGiven (columns tag) es)
+      (each (entryAllowed separator) es)
   fit-number tag Misfit = refl
 
   body-number : (tag : Tag) (b : List ℕ) → Bytes b
@@ -108,6 +119,8 @@ module _ (order : Order) (old : List ℕ) (at : ℕ) where
   kind-number kind.Pcr b bytes = body-number tag.Pcr b bytes
   kind-number kind.Hbr b bytes = body-number tag.Hbr b bytes
   kind-number kind.Sbr b bytes = body-number tag.Sbr b bytes
+  kind-number kind.Wir b bytes = body-number tag.Wir b bytes
+  kind-number kind.Wrr b bytes = body-number tag.Wrr b bytes
   kind-number kind.Far b bytes = refl
   kind-number kind.Atr b bytes = refl
   kind-number kind.Mir b bytes = refl
@@ -138,7 +151,7 @@ write-number cpu s old at bytes =
 
 -- ---- reading: 18
 
--- a line means something, or is no count line: it is refused with nothing else
+-- a line means something, or is none of these lines: it is refused with nothing else
 line-cases : (P : Judging → Type 0) → P notALine → ((m : Meaning) → P (Says m)) → (line : List ℕ)
     → P (lineMeaning line)
 unfolding contentMeans

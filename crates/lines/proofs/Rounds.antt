@@ -7,7 +7,8 @@ use Prim.Native.Nat.{ℕ}
 use native.Mathlib.Omega.{arith}
 use Rattle.prelude.specs.Each.{each}
 use Rattle.answers.specs.declared.Answer.{Answer}
-use Rattle.answers.specs.declared.Answer.the-variants.{NameNotText, UnknownOrder, NotOneRecord, UnknownKind, BodyMisfit}
+use Rattle.answers.specs.declared.Answer.the-variants.{NoTime, NameNotText, UnknownOrder, NotOneRecord}
+use Rattle.answers.specs.declared.Answer.the-variants.{UnknownKind, BodyMisfit}
 use Rattle.numbers.specs.declared.Order.{Order}
 use Rattle.numbers.specs.declared.Ordering.{Ordering}
 use Rattle.numbers.specs.declared.Ordering.the-variants as ordering
@@ -24,7 +25,7 @@ use Rattle.line_layouts.specs.Columns.{separator, columns}
 use Rattle.line_layouts.specs.Names.{entryAllowed}
 use Rattle.line_layouts.specs.Entries.{Entry, Meaning}
 use Rattle.line_layouts.specs.Layouts.{textOf, recordOf}
-use Rattle.line_layouts.specs.Fitting.{Fitting}
+use Rattle.line_layouts.specs.Fitting.{Fitting, allGiven}
 use Rattle.line_layouts.specs.Judging.{Judging, Says, Faulty}
 use Rattle.line_layouts.proofs.Tables.{bar-separates}
 use Rattle.line_records.specs.Walks.{Fit, Fits, Misfit, meant}
@@ -34,10 +35,10 @@ use Rattle.line_records.proofs.Judges.{meaning-frame, meaning-tagged}
 use Rattle.line_texts.specs.Texts.{lineMeaning}
 use Rattle.line_texts.specs.Laws.{Telling}
 use Rattle.line_texts.proofs.Canonical.{canonical-read, read-tells}
-use Rattle.line_texts.proofs.Tellings.{optional-columns, tell-fits, tell-allowed, fits-tell}
+use Rattle.line_texts.proofs.Tellings.{tell-fits, tell-given, tell-allowed, fits-tell}
 use Rattle.lines.specs.Writing.{textMade}
 use Rattle.lines.specs.Reading.{recordIn}
-use Rattle.lines.specs.Laws.{ReadBack, WrittenBack, ThereAndBack, OtherOrder, BackAgain}
+use Rattle.lines.specs.Laws.{Writable, ReadBack, WrittenBack, ThereAndBack, OtherOrder, BackAgain}
 use Rattle.lines.proofs.Made.{record-read}
 
 -- ---- what a record says that can be written is what a line says, and the other way
@@ -64,11 +65,10 @@ record-fits order s m e = go (isRecord order s) refl
         tagged-fits (countTag (kindOf (recTyp s) (recSub s))) (body s) (sym (meaning-tagged order s f) ∙ e)
     go false f = never NotOneRecord (sym (meaning-frame order s f) ∙ e)
 
-pub record-tells : (order : Order) (s : List ℕ) (m : Meaning) → meaning order s ≡ Says m
-    → each (entryAllowed separator) (m .entries) ≡ true → Telling m
+pub record-tells : (order : Order) (s : List ℕ) (m : Meaning) → meaning order s ≡ Says m → Writable m → Telling m
 record-tells order s m e ok =
     let fit = record-fits order s m e in
-    (fits-tell separator (columns (m .tag)) (m .entries) (optional-columns (m .tag)) (fit .0) ok, fit .1)
+    (fits-tell separator (columns (m .tag)) (m .entries) (fit .0) (ok .0) (ok .1), fit .1)
 
 line-fits : (m : Meaning) → Telling m → Fitting m
 line-fits m t = (tell-fits separator (columns (m .tag)) (m .entries) (t .0), t .1)
@@ -80,14 +80,17 @@ there : (other : ℕ) (second : Order) → orderOf other ≡ ordering.Known seco
     → placed (textMade separator j) old at ≡ outcome (written.Bytes n) new
     → ReadBack other second (meaning order s) (part at n new)
 there other second is order s old at n new (Faulty answer) means e = refused-bytes answer old n new e
-there other second is order s old at n new (Says m) means e = go (each (entryAllowed separator) (m .entries)) refl
+there other second is order s old at n new (Says m) means e =
+    go (allGiven (columns (m .tag)) (m .entries)) refl (each (entryAllowed separator) (m .entries)) refl
   where
-    go : (t : Bool) → each (entryAllowed separator) (m .entries) ≡ t
+    go : (g : Bool) → allGiven (columns (m .tag)) (m .entries) ≡ g
+        → (t : Bool) → each (entryAllowed separator) (m .entries) ≡ t
         → ReadBack other second (meaning order s) (part at n new)
-    go false f = refused-bytes NameNotText old n new (rw f at e)
-    go true f =
-        let text = placed-part (textOf m) old at n new (rw f at e) in
-        let read = canonical-read separator bar-separates m (record-tells order s m means f) in
+    go false i t f = refused-bytes NoTime old n new (rw i at e)
+    go true i false f = refused-bytes NameNotText old n new (rw (i, f) at e)
+    go true i true f =
+        let text = placed-part (textOf m) old at n new (rw (i, f) at e) in
+        let read = canonical-read separator bar-separates m (record-tells order s m means (i, f)) in
         record {
           made = recordOf second m;
           reads = λ (o : List ℕ) (a : ℕ). rw (text, is, read);
@@ -112,6 +115,7 @@ again cpu (ordering.Known order) is line old at n new (Faulty answer) means e =
 again cpu (ordering.Known order) is line old at n new (Says m) means e =
     let s = placed-part (recordOf order m) old at n new (rw means at e) in
     let tell = read-tells separator bar-separates line m means in
+    let given = tell-given separator (columns (m .tag)) (m .entries) (tell .0) in
     let ok = tell-allowed separator (columns (m .tag)) (m .entries) (tell .0) in
     let read = record-read order m (line-fits m tell) in
     record {
@@ -120,7 +124,7 @@ again cpu (ordering.Known order) is line old at n new (Says m) means e =
       keeps = rw s (read ∙ sym means);
       said = m;
       means = means;
-      writes = λ (o : List ℕ) (a : ℕ). rw (s, is, read, ok);
+      writes = λ (o : List ℕ) (a : ℕ). rw (s, is, read, given, ok);
       same = canonical-read separator bar-separates m tell ∙ sym means;
     }
 

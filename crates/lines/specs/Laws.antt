@@ -1,18 +1,20 @@
--- What is shown of count lines: statements only. Each is proved in proofs/Laws.antt, under its name in small letters.
+-- What is shown of lines: statements only. Each is proved in proofs/Laws.antt, under its name in small letters.
 --
 --   WrittenOnce, ReadOnce    the two calls leave nothing open
+--   Writable                 what can be written of a meaning
 --   WrittenRead              the line of a record means what the record means
 --   RecordRead               the record of a line means what the line means
 --   ThereAndBack             a record, written and read back by the calls, has the same meaning
 --   OtherOrder               .. where it is read back in another byte order, too
 --   BackAgain                a line, read and written by the calls, is the canonical line of the same meaning
 --   Endings                  the four endings of a line mean the same
---   WrittenMost, LongestLine    no line is longer than 287 bytes, and one has as many
+--   WrittenMost, LongestLine    no line of a tag is longer than so many bytes, and one has as many
+--   RecordMost, LongestRecord   .. and so of records
 --   WriteRefused, ReadRefused   a refusal changes no byte of the output
 -- Assumes nothing.
 use mathlib.Core.Path.{_≡_}
-use mathlib.Core.Bool.{true, false}
-use mathlib.Core.List.{List, [], _∷_, _++_}
+use mathlib.Core.Bool.{true, false, cond}
+use mathlib.Core.List.{List, [], _∷_, _++_, map}
 use Prim.Native.Nat.{ℕ, _+_, _≤_}
 use Prim.Native.Char.{code}
 use lib.ListN.{length, replicate}
@@ -22,16 +24,17 @@ use Rattle.numbers.specs.declared.Order.{Order}
 use Rattle.numbers.specs.declared.Ordering.the-variants.{Known}
 use Rattle.numbers.specs.Orders.{orderOf}
 use Rattle.answers.specs.declared.Answer.{Answer}
-use Rattle.values.specs.Values.{mostHead, mostBin}
-use Rattle.line_layouts.specs.declared.Tag.the-variants.{Hbr}
-use Rattle.line_layouts.specs.Entries.{Number, Text, Meaning}
-use Rattle.line_layouts.specs.Layouts.{textOf, recordOf}
+use Rattle.line_layouts.specs.declared.Tag.{Tag}
+use Rattle.line_layouts.specs.declared.Tag.the-variants.{Pcr, Hbr, Sbr, Wir, Wrr}
+use Rattle.line_layouts.specs.declared.Column.{Column}
+use Rattle.line_layouts.specs.Entries.{Entry, Number, Text, Meaning}
+use Rattle.line_layouts.specs.Layouts.{isTime, textOf, recordOf}
 use Rattle.line_layouts.specs.Judging.{Judging, Says}
 use Rattle.line_records.specs.Records.{meaning}
 use Rattle.line_texts.specs.Texts.{isBreak, fromEnd, lineMeaning}
-use Rattle.line_layouts.specs.Columns.{separator, lineFeed, carriageReturn, mostCount}
+use Rattle.line_layouts.specs.Columns.{separator, lineFeed, carriageReturn, columns}
 use Rattle.line_layouts.specs.Names.{entryAllowed}
-use Rattle.line_layouts.specs.Fitting.{Fitting}
+use Rattle.line_layouts.specs.Fitting.{isNumber, Fitting, allGiven}
 use Rattle.output.specs.declared.Written.the-variants as written
 use Rattle.output.specs.Placed.{part, Outcome, outcome, placedAt}
 use Rattle.lines.specs.Writing.{lineWritten}
@@ -51,11 +54,15 @@ WrittenOnce = (cpu : ℕ) (s old : List ℕ) (at : ℕ) → Once (WritePromise c
 abbrev pub ReadOnce : Type 0
 ReadOnce = (cpu : ℕ) (line old : List ℕ) (at : ℕ) → Once (ReadPromise cpu line old at)
 
+-- neither 21 nor 19: no required time is missing, and names hold bytes that they may
+abbrev pub Writable : Meaning → Type 0
+Writable m = (allGiven (columns (m .tag)) (m .entries) ≡ true) × (each (entryAllowed separator) (m .entries) ≡ true)
+
 -- any record that can be written: its line, read back, has the same meaning. The site under head 255 is no part of a
 -- meaning
 abbrev pub WrittenRead : Type 0
-WrittenRead = (order : Order) (s : List ℕ) (m : Meaning) → meaning order s ≡ Says m
-    → each (entryAllowed separator) (m .entries) ≡ true → lineMeaning (textOf m) ≡ meaning order s
+WrittenRead = (order : Order) (s : List ℕ) (m : Meaning) → meaning order s ≡ Says m → Writable m
+    → lineMeaning (textOf m) ≡ meaning order s
 
 -- any meaning that fits its columns, so any that a line can have: the record made from it has that meaning
 abbrev pub RecordRead : Type 0
@@ -122,30 +129,52 @@ Endings = (s : List ℕ) (e : Ending) → isBreak (fromEnd 1 s) ≡ false → li
 
 -- ---- how long a line is
 
--- the longest is 287 bytes, its LF with it
+-- the longest of each tag, its LF with it
+abbrev pub mostText : Tag → ℕ
+mostText Pcr = 67
+mostText Hbr = 287
+mostText Sbr = 287
+mostText Wir = 289
+mostText Wrr = 1_624
+
 abbrev pub WrittenMost : Type 0
-WrittenMost = (order : Order) (s : List ℕ) (m : Meaning) → meaning order s ≡ Says m
-    → each (entryAllowed separator) (m .entries) ≡ true → length (textOf m) ≤ 287
+WrittenMost = (order : Order) (s : List ℕ) (m : Meaning) → meaning order s ≡ Says m → Writable m
+    → length (textOf m) ≤ mostText (m .tag)
+
+-- #103: of a date, hour and day have two digits: 10:00:00 10-JAN-1970
+abbrev pub longDate : ℕ
+longDate = 813_600
+
+-- a number of the most digits, P, a name of 255 bytes
+abbrev pub longestIn : Column → Entry
+longestIn c =
+    cond (isTime (c .0)) (Number longDate)
+    (cond (isNumber (c .0)) (Number (c .1)) (Text (replicate (c .1) (code "P"))))
 
 -- every field at its longest
-unfoldable pub longest : Meaning
-longest =
-    record {
-      tag = Hbr;
-      entries =
-          Number mostHead
-          ∷ Number 255
-          ∷ Number mostBin
-          ∷ Number mostCount
-          ∷ Text (code "P" ∷ [])
-          ∷ Text (replicate 255 (code "A"))
-          ∷ [];
-    }
+unfoldable pub longest : Tag → Meaning
+longest tag = record { tag = tag; entries = map longestIn (columns tag) }
 
--- .. and there is one of 287 bytes, in either byte order, wherever there is room for it
+-- .. and there is one of so many bytes, in either byte order, wherever there is room for it
 abbrev pub LongestLine : Type 0
-LongestLine = (cpu : ℕ) (order : Order) → orderOf cpu ≡ Known order → (old : List ℕ) (at : ℕ)
-    → at + 287 ≤ length old → lineWritten cpu (recordOf order longest) old at .answer ≡ written.Bytes 287
+LongestLine = (tag : Tag) (cpu : ℕ) (order : Order) → orderOf cpu ≡ Known order → (old : List ℕ) (at : ℕ)
+    → at + mostText tag ≤ length old
+    → lineWritten cpu (recordOf order (longest tag)) old at .answer ≡ written.Bytes (mostText tag)
+
+-- the bytes of the longest body of each tag
+abbrev pub mostBody : Tag → ℕ
+mostBody Pcr = 22
+mostBody Hbr = 265
+mostBody Sbr = 265
+mostBody Wir = 262
+mostBody Wrr = 1_562
+
+-- no record that a line is read into is longer than that and its header, and one of each tag is as long
+abbrev pub RecordMost : Type 0
+RecordMost = (order : Order) (m : Meaning) → Fitting m → length (recordOf order m) ≤ 4 + mostBody (m .tag)
+
+abbrev pub LongestRecord : Type 0
+LongestRecord = (order : Order) (tag : Tag) → length (recordOf order (longest tag)) ≡ 4 + mostBody tag
 
 -- ---- a refusal changes no byte of the output
 

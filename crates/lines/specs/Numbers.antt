@@ -1,5 +1,6 @@
 -- The orders of checks of the two calls, as lists: statements only. Each is proved in proofs/Numbers.antt, under its
 -- name in small letters. Document 01, "Count lines": writing checks 4, 3, 6, 7, 19, 17; reading 4, 18, 17.
+-- #103: writing, 21 after 7.
 --
 --   writtenNumber              the number that a call is answered with, 0 where bytes are written
 --   writeChecks, readChecks    the checks behind the first, in the byte order that is told
@@ -28,9 +29,10 @@ use Rattle.line_layouts.specs.declared.Layout.{Layout}
 use Rattle.line_layouts.specs.declared.Layout.the-variants as layout
 use Rattle.line_layouts.specs.declared.Tagging.{Tagging}
 use Rattle.line_layouts.specs.declared.Tagging.the-variants.{Known, Other}
-use Rattle.line_layouts.specs.Columns.{separator}
+use Rattle.line_layouts.specs.Columns.{separator, columns}
 use Rattle.line_layouts.specs.Layouts.{laidOut}
 use Rattle.line_layouts.specs.Names.{entryAllowed}
+use Rattle.line_layouts.specs.Fitting.{allGiven}
 use Rattle.line_layouts.specs.Judging.{Judging, Says, Faulty}
 use Rattle.line_records.specs.Records.{countTag, meaning}
 use Rattle.line_texts.specs.Texts.{lineMeaning}
@@ -48,17 +50,22 @@ abbrev pub orderFirst : Ordering → (Order → List (Check ℕ)) → List (Chec
 orderFirst (ordering.Known order) checks = (true else 4) ∷ checks order
 orderFirst ordering.Unknown checks = (false else 4) ∷ []
 
--- 6, when writing text: PCR, HBR and SBR have a line
+-- 6, when writing text: PCR, HBR and SBR have a line; #103, WIR and WRR too
 abbrev pub hasLine : Tagging → Bool
 hasLine (Known tag) = true
 hasLine Other = false
 
--- 18: not a count line, which means nothing
+-- 18: not one of these lines, which means nothing
 abbrev pub isSaid : Judging → Bool
 isSaid (Says m) = true
 isSaid (Faulty a) = false
 
--- 19: names hold bytes 32 to 126 without `|`; asked only of what means something
+-- #103, 21: a required time is 0; asked only of what means something
+abbrev pub timesGiven : Judging → Bool
+timesGiven (Says m) = allGiven (columns (m .tag)) (m .entries)
+timesGiven (Faulty a) = true
+
+-- 19: names hold bytes 32 to 126 without `|`; asked likewise
 abbrev pub namesAllowed : Judging → Bool
 namesAllowed (Says m) = each (entryAllowed separator) (m .entries)
 namesAllowed (Faulty a) = true
@@ -76,6 +83,7 @@ writeChecks order s old at =
     (isRecord order s else 3)
     ∷ (hasLine (countTag kind) else 6)
     ∷ (fitting (readBody order kind (body s)) else 7)
+    ∷ (timesGiven (meaning order s) else 21)
     ∷ (namesAllowed (meaning order s) else 19)
     ∷ (hasRoom (layout.Text separator) (meaning order s) old at else 17)
     ∷ []

@@ -1,4 +1,5 @@
-// Count lines of ATDF and the records they stand for, from either one to the other: document 01, "Count lines".
+// Lines of ATDF and the records they stand for, from either one to the other: document 01, "Count lines"; #103, WIR and
+// WRR.
 mod reading;
 mod writing;
 

@@ -9,7 +9,7 @@ use Rattle.rows.specs.Rows.{slotDropped, heldBy, sumBy, rowRight, rowsRight, co
 use Rattle.rows.specs.Counts.{plus}
 use Rattle.rising.specs.Rising.{risingFrom, rising, rank, held, allBelow, insertAt, removeAt}
 use Rattle.session.specs.Session as session
-use Rattle.session.specs.Session.{partsRight}
+use Rattle.session.specs.Session.{keptRight}
 use Rattle.settling.specs.Settling.{changed}
 use Rattle.first_record.specs.First.{judgeIn, judgeFirst}
 use Rattle.kind_effects.specs.Effects.{judgePir, judgePrr}
@@ -31,7 +31,7 @@ use Rattle.marked.specs.Marked.{table, Marked}
 pub marked-cases : Marked
 unfolding table sound rowsSound slotsSound slotSound promisedFrom unfilled granted rowTaken resultedIf settled
     delivered openSlot deliver rowAt reported heldBy sumBy rowRight rowsRight countedMore countedNew counted plus
-    risingFrom rising rank held allBelow insertAt removeAt session.sound partsRight changed judgeIn judgeFirst
+    risingFrom rising rank held allBelow insertAt removeAt session.sound keptRight changed judgeIn judgeFirst
     judgePir judgePrr judgeLater judge isRecord named kindOf readBody softBinFits closeSlot slotDropped hasType beyondTable
     placedAt digits isDigit numeral allowed laid sits ending tagOf contentMeans split pieceFits entryIn fieldsFit
     entriesIn

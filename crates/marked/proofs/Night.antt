@@ -9,7 +9,7 @@ use Rattle.rows.specs.Rows.{heldBy, sumBy, rowRight, rowsRight, countedMore, co
 use Rattle.rows.specs.Counts.{plus}
 use Rattle.rising.specs.Rising.{risingFrom, rising, rank, held, allBelow, insertAt, removeAt}
 use Rattle.session.specs.Session as session
-use Rattle.session.specs.Session.{partsRight}
+use Rattle.session.specs.Session.{keptRight}
 use Rattle.settling.specs.Settling.{changed}
 use Rattle.first_record.specs.First.{judgeIn, judgeFirst}
 use Rattle.kind_effects.specs.Effects.{judgePir, judgePrr}
@@ -24,20 +24,20 @@ use Rattle.marked.specs.Night.{NightAnswers, NightTally, NightAssured}
 pub night-answers : NightAnswers
 unfolding sound rowsSound slotsSound slotSound promisedFrom unfilled granted rowTaken resultedIf settled delivered
     openSlot deliver rowAt reported heldBy sumBy rowRight rowsRight countedMore countedNew counted plus risingFrom
-    rising rank held allBelow insertAt removeAt session.sound partsRight changed judgeIn judgeFirst judgePir
+    rising rank held allBelow insertAt removeAt session.sound keptRight changed judgeIn judgeFirst judgePir
     judgePrr judgeLater judge isRecord named kindOf readBody softBinFits
 night-answers = refl
 
 pub night-tally : NightTally
 unfolding sound rowsSound slotsSound slotSound promisedFrom unfilled granted rowTaken resultedIf settled delivered
     openSlot deliver rowAt reported heldBy sumBy rowRight rowsRight countedMore countedNew counted plus risingFrom
-    rising rank held allBelow insertAt removeAt session.sound partsRight changed judgeIn judgeFirst judgePir
+    rising rank held allBelow insertAt removeAt session.sound keptRight changed judgeIn judgeFirst judgePir
     judgePrr judgeLater judge isRecord named kindOf readBody softBinFits
 night-tally = refl
 
 pub night-assured : NightAssured
 unfolding sound rowsSound slotsSound slotSound promisedFrom unfilled granted rowTaken resultedIf settled delivered
     openSlot deliver rowAt reported heldBy sumBy rowRight rowsRight countedMore countedNew counted plus risingFrom
-    rising rank held allBelow insertAt removeAt session.sound partsRight changed judgeIn judgeFirst judgePir
+    rising rank held allBelow insertAt removeAt session.sound keptRight changed judgeIn judgeFirst judgePir
     judgePrr judgeLater judge isRecord named kindOf readBody softBinFits
 night-assured = refl

@@ -19,7 +19,7 @@ use Rattle.output.specs.declared.Written.the-variants as written
 use Rattle.output.specs.Placed.{Outcome, part}
 use Rattle.lines.specs.Reading.{lineRead}
 use Rattle.rows.specs.Rows.{rowKey}
-use Rattle.session.specs.Session.{mostOpen}
+use Rattle.session.specs.Session.{cellCount}
 use Rattle.house.specs.declared.House.{House}
 use Rattle.house.specs.declared.Slot.{Slot}
 use Rattle.house.specs.House.{rowCount, closedSlot, fresh}
@@ -83,8 +83,9 @@ busy floor results =
       floor = floor;
       session =
           record {
-            standing = record { place = Body; order = LowFirst; opened = 0; pcr = false; results = results };
-            parts = replicate mostOpen 0;
+            standing =
+                record { place = Body; order = LowFirst; opened = 0; pcr = false; results = results; wafers = 0 };
+            parts = replicate cellCount 0;
           };
       held = 0;
     }

@@ -236,7 +236,7 @@ module _ (slot : ℕ) (h : House) (es : List Said) (t : Tells h es) where
       let q = book-agrees slot (t .calls) (t .sent) .says in
       ap (λ (s : Slot). s .session .standing) (sym (bare-at h slot))
       ∙ ap (λ (g : House). slotAt g slot .session .standing) (t .made)
-      ∙ rw (t .is, q .place, q .order, q .opened, q .pcr, q .results)
+      ∙ rw (t .is, q .place, q .order, q .parts .many, q .pcr, q .results, q .wafers .many)
 
   tells-reply : (rec : List ℕ)
       → asked.reply (asked.reached house.fresh (t .calls)) (Deliver slot rec) ≡ Told (deliver h slot rec .answer)

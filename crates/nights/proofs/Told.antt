@@ -12,10 +12,12 @@ use Rattle.books.specs.Told.{carriedBy}
 use Rattle.books.proofs.Told as by-books
 use Rattle.books.proofs.Smallest as by-smallest
 use Rattle.books.proofs.Rooms as by-rooms
+use Rattle.books.proofs.Wafers as by-wafers
 use Rattle.nights.specs.Night.{fresh, Call, Asked, Reply, Replied, answerOf, AllSent}
 use Rattle.nights.specs.Spelled.{spelled, told}
 use Rattle.nights.specs.Told.{numberTold, OpenTold, DeliverTold, ValuesTold, ReportTold, ReportListed, CloseTold}
-use Rattle.nights.specs.Told.{FiguresTold, RowsKept, ShutNone, FreePromised, NeverRefused}
+use Rattle.nights.specs.Told.{WirTold, WrrTold, MrrTold, WafersKept, FiguresTold, RowsKept, ShutNone}
+use Rattle.nights.specs.Told.{FreePromised, NeverRefused}
 use Rattle.nights.proofs.Spelled.{spelled-sent, asked-told}
 
 number-told : (calls : List Call) (c : asked.Call) → AllSent calls
@@ -38,6 +40,24 @@ values-told calls c sent own =
     ap (λ (r : Reply). valuesOf (answerOf r)) (asked-told calls c sent)
     ∙ by-smallest.values-told (spelled fresh calls) c (spelled-sent calls sent) own
     ∙ ap (λ (n : ℕ). carriedBy (told calls) n c) (sym (number-told calls c sent))
+
+pub wir-told : WirTold
+wir-told calls slot rec w sent bytes a =
+    number-told calls (Deliver slot rec) sent
+    ∙ by-wafers.wir-told (spelled fresh calls) slot rec w (spelled-sent calls sent) bytes a
+
+pub wrr-told : WrrTold
+wrr-told calls slot rec w sent bytes a =
+    number-told calls (Deliver slot rec) sent
+    ∙ by-wafers.wrr-told (spelled fresh calls) slot rec w (spelled-sent calls sent) bytes a
+
+pub mrr-told : MrrTold
+mrr-told calls slot rec sent bytes a =
+    number-told calls (Deliver slot rec) sent
+    ∙ by-wafers.mrr-told (spelled fresh calls) slot rec (spelled-sent calls sent) bytes a
+
+pub wafers-kept : WafersKept
+wafers-kept calls slot sent = by-wafers.wafers-kept (spelled fresh calls) slot (spelled-sent calls sent)
 
 pub report-told : ReportTold
 report-told calls slot long sent =

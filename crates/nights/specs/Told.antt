@@ -23,6 +23,8 @@ use Rattle.answers.specs.declared.Values.the-variants.{Nothing}
 use Rattle.answers.specs.declared.Saying.{Saying}
 use Rattle.answers.specs.Numbers.{sayingOf, numberOf, valuesOf}
 use Rattle.numbers.specs.Laws.{Bytes}
+use Rattle.bodies.specs.declared.Wafer.{Wafer}
+use Rattle.bodies.specs.declared.Record.the-variants as body
 use Rattle.session.specs.declared.Standing.{Standing}
 use Rattle.rows.specs.Rows.{slotCount}
 use Rattle.cutting.specs.Needed.{longest}
@@ -35,6 +37,7 @@ use Rattle.house.specs.History.{Open, Deliver, Report, Close, Figured, Told, Li
 use Rattle.tallies.specs.Results.{tallyOf}
 use Rattle.books.specs.Book.{Book, bookOf, rowsIn, over, freeBy, promisedBy}
 use Rattle.books.specs.Told.{recordChecks, roomTo, carriedBy, Smallest}
+use Rattle.books.specs.Wafers.{Arrives, wirNumber, wrrNumber, mrrNumber, WafersRight}
 use Rattle.nights.specs.Night.{fresh, heldAt, Call, Asked, Feed, End, Reply, Replied, Took, Ended, answerOf}
 use Rattle.nights.specs.Night.{reply, reached, AllSent}
 use Rattle.nights.specs.Spelled.{delivers, spelledBy, spelled, told}
@@ -77,6 +80,26 @@ ValuesTold = (calls : List Call) (c : asked.Call) → AllSent calls → asked.Se
     → valuesOf (answerOf (reply (reached fresh calls) (Asked c)))
     ≡ carriedBy (told calls) (numberTold calls (Asked c)) c
 
+-- #103, wafers: where the checks before them hold, WIR is 22, 23, WRR is 22, and MRR is 12, 33, 20
+abbrev pub WirTold : Type 0
+WirTold = (calls : List Call) (slot : ℕ) (rec : List ℕ) (w : Wafer) → AllSent calls → Bytes rec
+    → Arrives (bookAt slot calls) slot rec (body.Wir w)
+    → numberTold calls (Asked (Deliver slot rec)) ≡ wirNumber (bookAt slot calls) w
+
+abbrev pub WrrTold : Type 0
+WrrTold = (calls : List Call) (slot : ℕ) (rec : List ℕ) (w : Wafer) → AllSent calls → Bytes rec
+    → Arrives (bookAt slot calls) slot rec (body.Wrr w)
+    → numberTold calls (Asked (Deliver slot rec)) ≡ wrrNumber (bookAt slot calls) w
+
+abbrev pub MrrTold : Type 0
+MrrTold = (calls : List Call) (slot : ℕ) (rec : List ℕ) → AllSent calls → Bytes rec
+    → Arrives (bookAt slot calls) slot rec body.Mrr
+    → numberTold calls (Asked (Deliver slot rec)) ≡ mrrNumber (bookAt slot calls)
+
+-- at most 8 wafers are open, one a head, and none but in the body of an open slot's stream
+abbrev pub WafersKept : Type 0
+WafersKept = (calls : List Call) (slot : ℕ) → AllSent calls → WafersRight (bookAt slot calls)
+
 -- Order of checks, Report: 1, 2, 17
 abbrev pub ReportTold : Type 0
 ReportTold = (calls : List Call) (slot long : ℕ) → AllSent calls
@@ -118,7 +141,8 @@ ShutNone = (slot : ℕ) (calls : List Call) → AllSent calls → bookAt slot ca
 abbrev pub FreePromised : Type 0
 FreePromised = (calls : List Call) → AllSent calls → promisedBy (told calls) ≤ freeBy (told calls)
 
--- a session below its floor is never refused for room: a record that is delivered ..
+-- a session below its floor is never refused for room, which is answer 13 to a record and no other (#103): one that is
+-- delivered ..
 abbrev pub NeverRefused : Type 0
 NeverRefused = (calls : List Call) (slot : ℕ) (rec : List ℕ) → AllSent calls → Bytes rec
     → rowsIn (bookAt slot calls) < bookAt slot calls .floor
@@ -173,6 +197,7 @@ standingIn b =
       opened = length (b .parts);
       pcr = b .pcr;
       results = length (b .results);
+      wafers = length (b .wafers);
     }
 
 -- a record is accepted, and told; or refused, with its number and what that carries

@@ -15,7 +15,7 @@ use lib.ListN.{length}
 use Rattle.prelude.specs.Choice.{_unless_then_}
 use Rattle.prelude.specs.Each.{each}
 use Rattle.digits.specs.Digits.{isDigit}
-use Rattle.script.specs.Words.{same}
+use Rattle.matching.specs.Matching.{same}
 
 -- the letters that are digits, in lower case
 abbrev pub isLetter : ℕ → Bool

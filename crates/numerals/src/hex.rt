@@ -1,5 +1,5 @@
 // A word as bytes in hexadecimal.
-use script::is_name;
+use matching::same_bytes;
 ghost use mathlib.Core.Path.{_≡_};
 ghost use Prim.Native.Nat.{_+_, _≤_, _/_};
 ghost use lib.ListN.{length, drop};
@@ -48,7 +48,7 @@ pub fn is_hex(word: &[u8]) -> bool
 fn is_no_bytes(word: &[u8]) -> bool
     ensures { λ r. ⌜ r ≡ isNoBytes (now (word .entry)) ⌝ }
 {
-    is_name(word, b"-")
+    same_bytes(word, b"-")
 }
 
 // Whether a word is bytes, none among them.

@@ -4,8 +4,8 @@
 use mathlib.Core.Path.{_≡_, refl, ap, sym, _∙_}
 use mathlib.Core.Bool.{Bool, true, false, not, false≢true}
 use Rattle.kinds.specs.declared.Kind.{Kind}
-use Rattle.kinds.specs.declared.Kind.the-variants.{Far, Atr, Mir, Mrr, Pcr, Hbr, Sbr, Rdr, Sdr, Pir, Prr, Remaining}
-use Rattle.kinds.specs.declared.Kind.the-variants.{Custom, Unknown}
+use Rattle.kinds.specs.declared.Kind.the-variants.{Far, Atr, Mir, Mrr, Pcr, Hbr, Sbr, Rdr, Sdr, Wir, Wrr, Pir, Prr}
+use Rattle.kinds.specs.declared.Kind.the-variants.{Remaining, Custom, Unknown}
 use Rattle.order.specs.declared.Place.{Place}
 use Rattle.order.specs.declared.Place.the-variants.{Start, Header, Lot, Setup, Body, Ended}
 use Rattle.order.specs.declared.Step.{Step}
@@ -47,6 +47,8 @@ module _ (P : Kind → Type 0) (others : (k : Kind) → Other k → P k) where
   by-word far atr mir rdr sdr mrr Sbr = others Sbr (other-by Sbr refl (λ a b c d e f g. refl))
   by-word far atr mir rdr sdr mrr Pir = others Pir (other-by Pir refl (λ a b c d e f g. refl))
   by-word far atr mir rdr sdr mrr Prr = others Prr (other-by Prr refl (λ a b c d e f g. refl))
+  by-word far atr mir rdr sdr mrr Wir = others Wir (other-by Wir refl (λ a b c d e f g. refl))
+  by-word far atr mir rdr sdr mrr Wrr = others Wrr (other-by Wrr refl (λ a b c d e f g. refl))
   by-word far atr mir rdr sdr mrr (Remaining k) =
       others (Remaining k) (other-by (Remaining k) refl (λ a b c d e f g. refl))
   by-word far atr mir rdr sdr mrr Custom = others Custom (other-by Custom refl (λ a b c d e f g. refl))

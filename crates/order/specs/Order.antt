@@ -7,8 +7,8 @@
 -- Assumes nothing.
 use mathlib.Core.Bool.{Bool, true, false}
 use Rattle.kinds.specs.declared.Kind.{Kind}
-use Rattle.kinds.specs.declared.Kind.the-variants.{Far, Atr, Mir, Mrr, Pcr, Hbr, Sbr, Rdr, Sdr, Pir, Prr, Remaining}
-use Rattle.kinds.specs.declared.Kind.the-variants.{Custom, Unknown}
+use Rattle.kinds.specs.declared.Kind.the-variants.{Far, Atr, Mir, Mrr, Pcr, Hbr, Sbr, Rdr, Sdr, Wir, Wrr, Pir, Prr}
+use Rattle.kinds.specs.declared.Kind.the-variants.{Remaining, Custom, Unknown}
 use Rattle.order.specs.declared.Place.{Place}
 use Rattle.order.specs.declared.Place.the-variants.{Start, Header, Lot, Setup, Body, Ended}
 use Rattle.order.specs.declared.Step.{Step}
@@ -26,6 +26,8 @@ byKind far atr mir rdr sdr mrr other Hbr = other
 byKind far atr mir rdr sdr mrr other Sbr = other
 byKind far atr mir rdr sdr mrr other Pir = other
 byKind far atr mir rdr sdr mrr other Prr = other
+byKind far atr mir rdr sdr mrr other Wir = other
+byKind far atr mir rdr sdr mrr other Wrr = other
 byKind far atr mir rdr sdr mrr other (Remaining k) = other
 byKind far atr mir rdr sdr mrr other Custom = other
 byKind far atr mir rdr sdr mrr other Unknown = other

@@ -13,8 +13,8 @@ use mathlib.Core.Bool.{Bool, true, false, cond, _&&_}
 use mathlib.Core.List.{List, [], _∷_}
 use lib.Dec.{eqb}
 use Rattle.kinds.specs.declared.Kind.{Kind}
-use Rattle.kinds.specs.declared.Kind.the-variants.{Far, Atr, Mir, Mrr, Pcr, Hbr, Sbr, Rdr, Sdr, Pir, Prr, Remaining}
-use Rattle.kinds.specs.declared.Kind.the-variants.{Custom, Unknown}
+use Rattle.kinds.specs.declared.Kind.the-variants.{Far, Atr, Mir, Mrr, Pcr, Hbr, Sbr, Rdr, Sdr, Wir, Wrr, Pir, Prr}
+use Rattle.kinds.specs.declared.Kind.the-variants.{Remaining, Custom, Unknown}
 use Rattle.order.specs.declared.Place.{Place}
 use Rattle.order.specs.Order.{goes, inPlace, placeAfter}
 
@@ -32,6 +32,8 @@ wordOf Hbr = 0
 wordOf Sbr = 0
 wordOf Pir = 0
 wordOf Prr = 0
+wordOf Wir = 0
+wordOf Wrr = 0
 wordOf (Remaining k) = 0
 wordOf Custom = 0
 wordOf Unknown = 0

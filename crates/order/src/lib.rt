@@ -68,6 +68,8 @@ pub fn next_place(place: Place, kind: Kind) -> Step
         Kind::Sbr => other_place(place),
         Kind::Pir => other_place(place),
         Kind::Prr => other_place(place),
+        Kind::Wir => other_place(place),
+        Kind::Wrr => other_place(place),
         Kind::Remaining(_) => other_place(place),
         Kind::Custom => other_place(place),
         Kind::Unknown => other_place(place),

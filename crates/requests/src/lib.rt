@@ -1,4 +1,4 @@
-// What a whole line of the desk asks for: a call on the house, a call on a count line, or no call.
+// What a whole line of the desk asks for: a call on the house, a call on a record line, or no call.
 mod cutting;
 
 use asking::Asked;

@@ -1,7 +1,7 @@
--- Laws of words: the first word of a line and the rest, a walk over a word, and the verbs.
+-- Laws of words: the first word of a line and the rest, and a walk over a word.
 -- Assumes nothing.
 use mathlib.Core.Path.{_≡_, refl, sym, ap, _∙_}
-use mathlib.Core.Bool.{Bool, true, false, cond, _&&_}
+use mathlib.Core.Bool.{Bool, true, false, cond}
 use mathlib.Core.List.{List, [], _∷_}
 use Prim.Native.Nat.{ℕ, suc, _+_, _-_, _≤_, _<_}
 use native.Mathlib.Numerals.{add-one}
@@ -11,7 +11,7 @@ use lib.Dec.{eqb}
 use lib.ListN.{length, getD, take, drop, drop-of-length-le, length-drop}
 use lib.Seq.{drop-cons, drop-drop}
 use Rattle.prelude.proofs.Parts.{part-from}
-use Rattle.script.specs.Words.{space, wordLength, wordEnd, before, words, same}
+use Rattle.script.specs.Words.{space, wordLength, wordEnd, before, words}
 
 -- ---- where a word ends
 
@@ -95,26 +95,3 @@ module _ (line : List ℕ) (from e : ℕ) (h : from ≤ length line) (is : e ≡
       let next : from + suc (e - from) ≡ e + 1 = omega (arith, word-is) in
       words-more (drop from line) rest
       ∙ rw (long, drop-drop (suc (e - from)) from line, next)
-
--- ---- two texts, byte by byte
-
-pub same-long : (w n : List ℕ) → (length w ≡ length n → ⊥) → same w n ≡ false
-same-long [] [] e = absurd (e refl)
-same-long [] (n ∷ ns) e = refl
-same-long (w ∷ ws) [] e = refl
-same-long (w ∷ ws) (n ∷ ns) e = go (eqb w n) (same-long ws ns (λ q. e (omega (arith, q))))
-  where
-    go : (t : Bool) → same ws ns ≡ false → (t && same ws ns) ≡ false
-    go true s = s
-    go false s = refl
-
-module _ (w n : List ℕ) (i : ℕ) where
-  pub same-ends : length w ≤ i → length n ≤ i → same (drop i w) (drop i n) ≡ true
-  same-ends h g = rw (drop-of-length-le w {i = i} h, drop-of-length-le n {i = i} g)
-
-  module _ (h : i < length w) (g : i < length n) where
-    pub same-fails : (getD w i 0 ≡ getD n i 0 → ⊥) → same (drop i w) (drop i n) ≡ false
-    same-fails e = rw (drop-cons w i 0 h, drop-cons n i 0 g, ne-eqb (getD w i 0) (getD n i 0) e)
-
-    pub same-on : getD w i 0 ≡ getD n i 0 → same (drop i w) (drop i n) ≡ same (drop (i + 1) w) (drop (i + 1) n)
-    same-on e = rw (drop-cons w i 0 h, drop-cons n i 0 g, eq-eqb (getD w i 0) (getD n i 0) e, add-one i)

@@ -4,12 +4,13 @@
 --   words     all words of a line
 --   verbOf    which verb a word is
 -- Assumes nothing.
-use mathlib.Core.Bool.{Bool, true, false, cond, _&&_}
+use mathlib.Core.Bool.{Bool, true, false, cond}
 use mathlib.Core.List.{List, [], _∷_, _++_}
 use Prim.Native.Nat.{ℕ, suc, _+_}
 use Prim.Native.Char.{code}
 use lib.Dec.{eqb}
 use lib.ListN.{drop}
+use Rattle.matching.specs.Matching.{same}
 use Rattle.script.specs.declared.Verb.{Verb}
 use Rattle.script.specs.declared.Verb.the-variants.{Fresh, Open, Deliver, Report, Close, Figures, Write, Read}
 use Rattle.script.specs.declared.Verb.the-variants.{Help, Feed, End, Other}
@@ -35,12 +36,6 @@ before false b (w ∷ ws) = (b ∷ w) ∷ ws
 abbrev pub words : List ℕ → List (List ℕ)
 words [] = [] ∷ []
 words (b ∷ bs) = before (eqb b space) b (words bs)
-
-abbrev pub same : List ℕ → List ℕ → Bool
-same [] [] = true
-same [] (n ∷ ns) = false
-same (w ∷ ws) [] = false
-same (w ∷ ws) (n ∷ ns) = eqb w n && same ws ns
 
 -- a verb and its word
 pub record Named : Type 0 where

@@ -2,7 +2,6 @@
 // program that reads lines can stand on it.
 mod words;
 
-pub use words::is_name;
 pub use words::verb_of;
 pub use words::word_end;
 

@@ -1,9 +1,11 @@
 // Where a word ends, and which verb it is.
 use crate::Verb;
+use matching::same_bytes;
 ghost use mathlib.Core.Path.{_≡_};
 ghost use Prim.Native.Nat.{_-_, _≤_};
 ghost use lib.ListN.{length, take, drop};
-ghost use Rattle.script.specs.Words.{wordEnd, same, joined, verbs, verbOf};
+ghost use Rattle.matching.specs.Matching.{same};
+ghost use Rattle.script.specs.Words.{wordEnd, joined, verbs, verbOf};
 
 // Where the word that starts at `from` ends: at the next space, or at the line's end.
 pub fn word_end(line: &[u8], from: usize) -> usize
@@ -20,30 +22,13 @@ pub fn word_end(line: &[u8], from: usize) -> usize
     i
 }
 
-// Whether a word is this name.
-pub fn is_name(word: &[u8], name: &[u8]) -> bool
-    ensures { λ r. ⌜ r ≡ same (now (word .entry)) (now (name .entry)) ⌝ }
-{
-    if word.len() != name.len() {
-        return false;
-    }
-    let mut i: usize = 0;
-    while i < word.len() {
-        if word[i] != name[i] {
-            return false;
-        }
-        i += 1;
-    }
-    true
-}
-
 // Whether a word is the part `from` to `end` of all verbs' words, one behind the other.
 fn is_verb(word: &[u8], from: usize, end: usize) -> bool
     requires { ⌜ (from ≤ end) × (end ≤ 54) ⌝ }
     ensures { λ r. ⌜ r ≡ same (now (word .entry)) (take (end - from) (drop from (joined verbs))) ⌝ }
 {
     let words = *b"deliveropenreportclosefiguresfreshwritereadhelpfeedend";
-    is_name(word, &words[from..end])
+    same_bytes(word, &words[from..end])
 }
 
 pub fn verb_of(word: &[u8]) -> Verb

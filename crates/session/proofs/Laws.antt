@@ -1,13 +1,13 @@
 -- Laws of a session by itself: what soundness tells, as the functions' proofs and the judgement's laws cite it.
 -- Assumes nothing.
 use mathlib.Core.Path.{_≡_, refl, sym, _∙_}
-use mathlib.Core.Bool.{true, false, _&&_, false≢true}
+use mathlib.Core.Bool.{true, false, false≢true}
 use mathlib.Core.List.{List, [], _∷_}
 use Prim.Native.Nat.{ℕ, suc, _-_, _≤_, _<_}
 use native.Mathlib.Omega.{arith}
 use borrow.Author.Tests.{le-leb, lt-leb, leb-true, eq-eqb, ne-eqb}
 use lib.Dec.{eqb, leb, ltb}
-use lib.ListN.{length, getD, take}
+use lib.ListN.{length, getD, take, drop}
 use lib.Seq.{getD-take, length-take-le}
 use Rattle.prelude.proofs.All.{all-at}
 use Rattle.order.specs.declared.Place.{Place}
@@ -17,108 +17,143 @@ use Rattle.rising.specs.Rising.{risingFrom, rising, held, allBelow}
 use Rattle.rising.proofs.Laws.{side, rising-rest, rising-cons, held-low, below-last}
 use Rattle.session.specs.declared.Session.{Session}
 use Rattle.session.specs.declared.Standing.{Standing}
-use Rattle.session.specs.Session.{mostOpen, pastParts, isStart, nothingYet, standsRight, partsRight}
+use Rattle.session.specs.Session.{mostOpen, mostWafers, pastParts, waferHead, headsIn, wafersOf, isStart}
+use Rattle.session.specs.Session.{nothingYet, mayEnd, standsRight, keptRight, partsRight, headCells, wafersRight}
 use Rattle.session.specs.Session.{conditions, sound}
+use Rattle.session.proofs.Wafers.{map-take, heads-rise}
 use Rattle.session.specs.Laws.{BegunSound, SoundLent, SmallestHeld, SmallestLeast}
 
 -- ---- a sound session
 
-module _ (opened : ℕ) (cells : List ℕ) where
-  pub parts-many : mostOpen < opened → partsRight opened cells ≡ false
-  unfolding partsRight
-  parts-many h = rw (lt-leb opened mostOpen h)
+module _ (most bound used : ℕ) (cells : List ℕ) where
+  pub kept-many : most < used → keptRight most bound used cells ≡ false
+  unfolding keptRight
+  kept-many h = rw (lt-leb used most h)
 
-  module _ (few : opened ≤ mostOpen) where
-    pub parts-fall : rising (take opened cells) ≡ false → partsRight opened cells ≡ false
-    unfolding partsRight
-    parts-fall e = rw (le-leb opened mostOpen few, e)
+  module _ (few : used ≤ most) where
+    pub kept-fall : rising (take used cells) ≡ false → keptRight most bound used cells ≡ false
+    unfolding keptRight
+    kept-fall e = rw (le-leb used most few, e)
 
-    module _ (rises : rising (take opened cells) ≡ true) where
-      pub parts-none : opened ≡ 0 → partsRight opened cells ≡ true
-      unfolding partsRight allBelow rising risingFrom
-      parts-none e = rw e
+    pub kept-none : used ≡ 0 → keptRight most bound used cells ≡ true
+    unfolding keptRight allBelow rising risingFrom
+    kept-none e = rw (le-leb used most few, e)
 
-      pub parts-last : (opened ≡ 0 → ⊥) → length cells ≡ mostOpen
-          → partsRight opened cells ≡ ltb (getD cells (opened - 1) 0) pastParts
-      unfolding partsRight
-      parts-last some long =
-          let taken : length (take opened cells) ≡ opened = length-take-le opened cells (omega arith) in
-          let last : length (take opened cells) ≡ suc (opened - 1) = omega arith in
-          rw (
-            le-leb opened mostOpen few,
-            rises,
-            below-last pastParts (take opened cells) (opened - 1) rises last,
-            getD-take opened cells (opened - 1) 0 (omega arith),
-          )
+    pub kept-last : rising (take used cells) ≡ true → (used ≡ 0 → ⊥) → most ≤ length cells
+        → keptRight most bound used cells ≡ ltb (getD cells (used - 1) 0) bound
+    unfolding keptRight
+    kept-last rises some long =
+        let taken : length (take used cells) ≡ used = length-take-le used cells (omega arith) in
+        let last : length (take used cells) ≡ suc (used - 1) = omega arith in
+        rw (
+          le-leb used most few,
+          rises,
+          below-last bound (take used cells) (used - 1) rises last,
+          getD-take used cells (used - 1) 0 (omega arith),
+        )
 
 module _ (st : Standing) where
   pub yet-part : (st .opened ≡ 0 → ⊥) → nothingYet st ≡ false
   yet-part e = rw (ne-eqb (st .opened) 0 e)
 
+  pub ended-part : (st .opened ≡ 0 → ⊥) → mayEnd st ≡ false
+  ended-part e = rw (ne-eqb (st .opened) 0 e)
+
   module _ (none : st .opened ≡ 0) where
     pub yet-pcr : st .pcr ≡ true → nothingYet st ≡ false
     yet-pcr e = rw (eq-eqb (st .opened) 0 none, e)
 
-    pub yet-results : st .pcr ≡ false → nothingYet st ≡ eqb (st .results) 0
-    yet-results e = rw (eq-eqb (st .opened) 0 none, e)
+    module _ (no-pcr : st .pcr ≡ false) where
+      pub yet-results : (st .results ≡ 0 → ⊥) → nothingYet st ≡ false
+      yet-results e = rw (eq-eqb (st .opened) 0 none, no-pcr, ne-eqb (st .results) 0 e)
 
-    pub ended-by-pcr : (eqb (st .opened) 0 && st .pcr) ≡ st .pcr
-    ended-by-pcr = rw (eq-eqb (st .opened) 0 none)
+      pub yet-wafers : st .results ≡ 0 → nothingYet st ≡ eqb (st .wafers) 0
+      yet-wafers e = rw (eq-eqb (st .opened) 0 none, no-pcr, eq-eqb (st .results) 0 e)
 
-  pub ended-open : (st .opened ≡ 0 → ⊥) → (eqb (st .opened) 0 && st .pcr) ≡ false
-  ended-open e = rw (ne-eqb (st .opened) 0 e)
+    pub ended-wafer : (st .wafers ≡ 0 → ⊥) → mayEnd st ≡ false
+    ended-wafer e = rw (eq-eqb (st .opened) 0 none, ne-eqb (st .wafers) 0 e)
+
+    pub ended-by-pcr : st .wafers ≡ 0 → mayEnd st ≡ st .pcr
+    ended-by-pcr e = rw (eq-eqb (st .opened) 0 none, eq-eqb (st .wafers) 0 e)
 
 module _ (s : Session) where
   pub sound-parts : partsRight (s .standing .opened) (s .parts) ≡ false → sound s ≡ false
   unfolding sound
   sound-parts e = rw e
 
-  pub sound-stands : partsRight (s .standing .opened) (s .parts) ≡ true
-      → sound s ≡ standsRight (s .standing .place) (s .standing)
-  unfolding sound
-  sound-stands e = rw e
+  module _ (parts : partsRight (s .standing .opened) (s .parts) ≡ true) where
+    pub sound-wafers : wafersRight (s .standing .wafers) (s .parts) ≡ false → sound s ≡ false
+    unfolding sound
+    sound-wafers e = rw (parts, e)
+
+    pub sound-stands : wafersRight (s .standing .wafers) (s .parts) ≡ true
+        → sound s ≡ standsRight (s .standing .place) (s .standing)
+    unfolding sound
+    sound-stands e = rw (parts, e)
 
 -- ---- what soundness tells, and what tells it
 
-pub record Parts (opened : ℕ) (cells : List ℕ) : Type 0 where
-  pub few : opened ≤ mostOpen
-  pub rises : rising (take opened cells) ≡ true
-  pub below : allBelow pastParts (take opened cells) ≡ true
+pub record Kept (most bound used : ℕ) (cells : List ℕ) : Type 0 where
+  pub few : used ≤ most
+  pub rises : rising (take used cells) ≡ true
+  pub below : allBelow bound (take used cells) ≡ true
 
-parts-told : (opened : ℕ) (cells : List ℕ) → partsRight opened cells ≡ true → Parts opened cells
-unfolding partsRight
-parts-told opened cells e =
-    let few = leb opened mostOpen in
-    let at = all-at (few ∷ rising (take opened cells) ∷ allBelow pastParts (take opened cells) ∷ []) e in
-    record { few = leb-true opened mostOpen (at 0); rises = at 1; below = at 2 }
+module _ (most bound used : ℕ) (cells : List ℕ) where
+  pub kept-told : keptRight most bound used cells ≡ true → Kept most bound used cells
+  unfolding keptRight
+  kept-told e =
+      let at = all-at (leb used most ∷ rising (take used cells) ∷ allBelow bound (take used cells) ∷ []) e in
+      record { few = leb-true used most (at 0); rises = at 1; below = at 2 }
 
-pub parts-right : (opened : ℕ) (cells : List ℕ) → Parts opened cells → partsRight opened cells ≡ true
-unfolding partsRight
-parts-right opened cells p = rw (le-leb opened mostOpen (p .few), p .rises, p .below)
+  pub kept-right : Kept most bound used cells → keptRight most bound used cells ≡ true
+  unfolding keptRight
+  kept-right p = rw (le-leb used most (p .few), p .rises, p .below)
 
 module _ (s : Session) where
   pub sound-right : partsRight (s .standing .opened) (s .parts) ≡ true
+      → wafersRight (s .standing .wafers) (s .parts) ≡ true
       → standsRight (s .standing .place) (s .standing) ≡ true
       → sound s ≡ true
   unfolding sound
-  sound-right p q = rw (p, q)
+  sound-right p w q = rw (p, w, q)
 
   module _ (e : sound s ≡ true) where
-    pub sound-parts-told : Parts (s .standing .opened) (s .parts)
+    pub sound-parts-told : Kept mostOpen pastParts (s .standing .opened) (s .parts)
     unfolding sound
-    sound-parts-told = parts-told (s .standing .opened) (s .parts) (all-at (conditions s) e 0)
+    sound-parts-told = kept-told mostOpen pastParts (s .standing .opened) (s .parts) (all-at (conditions s) e 0)
+
+    -- of the heads of the open wafers
+    pub sound-wafers-told : Kept mostWafers 256 (s .standing .wafers) (headCells (s .parts))
+    unfolding sound
+    sound-wafers-told =
+        kept-told mostWafers 256 (s .standing .wafers) (headCells (s .parts)) (all-at (conditions s) e 1)
 
     pub sound-stands-told : standsRight (s .standing .place) (s .standing) ≡ true
     unfolding sound
-    sound-stands-told = all-at (conditions s) e 1
+    sound-stands-told = all-at (conditions s) e 2
+
+    pub sound-heads-rise : rising (headsIn (s .standing .wafers) (s .parts)) ≡ true
+    sound-heads-rise =
+        rw (← map-take waferHead (s .standing .wafers) (drop mostOpen (s .parts))) (sound-wafers-told .rises)
+
+    pub sound-wafers-rise : rising (wafersOf s) ≡ true
+    sound-wafers-rise = heads-rise (wafersOf s) sound-heads-rise
 
 pub sound-lent : SoundLent
 sound-lent s long e =
     let p = sound-parts-told s e in
-    record { few = p .few; within = omega (arith, p .few); rises = p .rises }
+    let w = sound-wafers-told s e in
+    record {
+      long = long;
+      few = p .few;
+      within = omega (arith, p .few);
+      rises = p .rises;
+      fewWafers = w .few;
+      headsRise = sound-heads-rise s e;
+    }
 
 pub begun-sound : BegunSound
-unfolding sound partsRight rising risingFrom allBelow
+unfolding sound keptRight rising risingFrom allBelow
 begun-sound = refl
 
 -- ---- the smallest part
@@ -141,7 +176,7 @@ smallest-least (x ∷ xs) part rises there =
 
 -- .. as two questions
 pub stands-from : (q : Place) (st : Standing) → (before q ≡ true → nothingYet st ≡ true)
-    → (ended q ≡ true → (eqb (st .opened) 0 && st .pcr) ≡ true) → standsRight q st ≡ true
+    → (ended q ≡ true → mayEnd st ≡ true) → standsRight q st ≡ true
 stands-from Start st b e = b refl
 stands-from Header st b e = b refl
 stands-from Lot st b e = b refl

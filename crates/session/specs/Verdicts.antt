@@ -23,7 +23,7 @@ use Rattle.session.specs.declared.Verdict.{Verdict}
 use Rattle.session.specs.declared.Verdict.the-variants.{Refused, Taken, Wanted}
 use Rattle.session.specs.Session.{partHead, partSite, smallest}
 
--- most records move the standing, if anything, and no part
+-- most records move the standing, if anything, and no part or wafer
 abbrev pub stands : Standing → Change
 stands st = Stands st
 
@@ -40,9 +40,9 @@ verdictAnswer (Wanted change key) = answer.Done
 abbrev pub verdictNumber : Verdict → ℕ
 verdictNumber v = numberOf (verdictAnswer v)
 
--- 3 to 12, 14 and 20: room, 13, is the house's to judge, and the rest are not about a record
+-- 3 to 12, 14, 20, 22, 23 and 33: room, 13, is the house's to judge, and the rest are not about a record
 abbrev pub ownNumber : ℕ → Bool
-ownNumber n = (leb 3 n && leb n 12) || (eqb n 14 || eqb n 20)
+ownNumber n = (leb 3 n && leb n 12) || (eqb n 14 || (eqb n 20 || (eqb n 22 || (eqb n 23 || eqb n 33))))
 
 -- 12 carries a part, and no other number carries anything
 abbrev pub carried : ℕ → List ℕ → Values

@@ -13,32 +13,41 @@ pub use sound::is_sound;
 pub use sound::nothing_yet;
 pub use sound::parts_right;
 pub use sound::stands_right;
+pub use sound::wafers_right;
 
-// A session but for its list of open parts, of which it has the number: what most records change, if anything.
+// A session but for its lists of open parts and of open wafers, of which it has the numbers: what most records change,
+// if anything.
 pub struct Standing {
     pub place: Place,
     pub order: Order,
     pub opened: usize,
     pub pcr: bool,
     pub results: u32,
+    pub wafers: usize,
 }
 
-// The open parts stand rising in the first `opened` cells, each as head * 256 + site.
+// The open parts stand rising in the first `opened` of 32 cells, each as head * 256 + site; the open wafers in the
+// first `wafers` of the 8 cells behind those, in rising order of head, each as head * 256 + site group. One row of
+// cells, so that what is lent of a session is one slice.
 pub struct Session {
     pub standing: Standing,
-    pub parts: [u64; 32],
+    pub parts: [u64; 40],
 }
 
-// What an accepted record makes of a session: its standing after it, and what becomes of its open parts. Those that
-// judge and settle alone look into it: a house hands it back to be settled, so that a kind with an effect of its own is
-// no business of a house.
+// What an accepted record makes of a session: its standing after it, and what becomes of its open parts and
+// wafers. Those that judge and settle alone look into it: a house hands it back to be settled, so that a kind with an
+// effect of its own is no business of a house.
 pub enum Change {
-    // The parts stay.
+    // The parts and the wafers stay.
     Stands(Standing),
     // A part opens, at its rank among the open ones.
     Opens(Standing, usize, u64),
     // The part at a rank closes.
     Closes(Standing, usize),
+    // A wafer opens, at the rank of its head among those of the open ones.
+    WaferOpens(Standing, usize, u64),
+    // The wafer at a rank closes.
+    WaferCloses(Standing, usize),
 }
 
 // What a record does to a session.
@@ -87,10 +96,11 @@ impl Session {
             opened: 0,
             pcr: false,
             results: 0,
+            wafers: 0,
         };
         Session {
             standing,
-            parts: [0; 32],
+            parts: [0; 40],
         }
     }
 }

@@ -2,13 +2,13 @@
 -- Assumes nothing.
 use mathlib.Core.Path.{_≡_, subst}
 use mathlib.Core.List.{List}
-use Prim.Native.Nat.{ℕ, _+_, _≤_, _<_}
+use Prim.Native.Nat.{ℕ, _+_}
 use Rattle.rising.specs.Rising.{insertAt, removeAt}
 use Rattle.answers.specs.declared.Answer.{Answer}
 use Rattle.session.specs.declared.Session.{Session}
 use Rattle.session.specs.declared.Standing.{Standing}
 use Rattle.session.specs.declared.Change.{Change}
-use Rattle.session.specs.declared.Change.the-variants.{Stands, Opens, Closes}
+use Rattle.session.specs.declared.Change.the-variants.{Stands, Opens, Closes, WaferOpens, WaferCloses}
 use Rattle.session.specs.declared.Verdict.{Verdict}
 use Rattle.session.specs.declared.Verdict.the-variants.{Refused, Taken, Wanted}
 use Rattle.session.specs.Session.{mostOpen}
@@ -33,12 +33,22 @@ module _ (st : Standing) (cells : List ℕ) {change : Change} {next : Standing} 
   unfolding changed
   changed-closes e then is = rw (e, is)
 
-module _ (opened : ℕ) {change : Change} {next : Standing} (within : Within opened change) where
-  pub within-opens : {rank part : ℕ} → change ≡ Opens next rank part → (rank ≤ opened) × (opened < mostOpen)
-  within-opens e = subst (Within opened) e within
+  pub changed-wafer-opens : {rank wafer : ℕ} → change ≡ WaferOpens next rank wafer → (then : List ℕ)
+      → then ≡ insertAt cells (mostOpen + st .wafers) (mostOpen + rank) wafer
+      → lentSession next then ≡ changed (lentSession st cells) change
+  unfolding changed
+  changed-wafer-opens e then is = rw (e, is)
 
-  pub within-closes : {rank : ℕ} → change ≡ Closes next rank → rank + 1 ≤ opened
-  within-closes e = subst (Within opened) e within
+  pub changed-wafer-closes : {rank : ℕ} → change ≡ WaferCloses next rank → (then : List ℕ)
+      → then ≡ removeAt cells (mostOpen + st .wafers) (mostOpen + rank) 1
+      → lentSession next then ≡ changed (lentSession st cells) change
+  unfolding changed
+  changed-wafer-closes e then is = rw (e, is)
+
+-- what is known of a change is known of what it is
+module _ (st : Standing) {change to : Change} (within : Within st change) where
+  pub within-is : change ≡ to → Within st to
+  within-is e = subst (Within st) e within
 
 -- ---- a verdict
 
@@ -56,9 +66,9 @@ module _ (s : Session) {v : Verdict} where
   after-wanted e = rw e
 
 -- what is known of a verdict is known of its change
-module _ (opened : ℕ) {v : Verdict} (fits : Settles opened v) where
-  pub settles-taken : {change : Change} → v ≡ Taken change → Within opened change
-  settles-taken e = subst (Settles opened) e fits
+module _ (st : Standing) {v : Verdict} (fits : Settles st v) where
+  pub settles-taken : {change : Change} → v ≡ Taken change → Within st change
+  settles-taken e = subst (Settles st) e fits
 
-  pub settles-wanted : {change : Change} {key : ℕ} → v ≡ Wanted change key → Within opened change
-  settles-wanted e = subst (Settles opened) e fits
+  pub settles-wanted : {change : Change} {key : ℕ} → v ≡ Wanted change key → Within st change
+  settles-wanted e = subst (Settles st) e fits

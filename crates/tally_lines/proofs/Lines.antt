@@ -23,8 +23,9 @@ use Rattle.line_layouts.specs.declared.Layout.the-variants as layout
 use Rattle.line_layouts.specs.Columns.{separator}
 use Rattle.line_layouts.specs.Entries.{noField, meaningOf, Within, AllWithin}
 use Rattle.line_layouts.specs.Layouts.{laid, laidOut}
+use Rattle.line_layouts.proofs.Fills.{padded-at}
 use Rattle.tally_lines.specs.Lines.{rowLine, ending, refusal, tooLongLine, unfinishedLine}
-use Rattle.tally_lines.specs.Writing.{lineOf, mostLine, mostRefused, LaidAt, RowLow}
+use Rattle.tally_lines.specs.Writing.{rowFields, lineOf, mostLine, mostRefused, LaidAt, RowLow}
 
 -- ---- how long a number is
 
@@ -91,17 +92,14 @@ never-refused e = let no : _≡_ {A = ℕ} 0 1 = cc in omega arith
 
 -- it names no bytes of a source
 pub line-within : (r : Row) {line : Line} → line ≡ lineOf r → AllWithin [] line
-line-within r is = rw is (record { seven = refl; within = at })
+line-within r is = rw is (record { full = refl; within = λ (j : ℕ). rw (padded-at (rowFields r) j) (at j) })
   where
-    at : (j : ℕ) → Within [] (getD (lineOf r .fields) j noField .said)
+    at : (j : ℕ) → Within [] (getD (rowFields r) j noField .said)
     at zero = tt
     at (suc zero) = tt
     at (suc (suc zero)) = tt
     at (suc (suc (suc zero))) = tt
-    at (suc (suc (suc (suc zero)))) = tt
-    at (suc (suc (suc (suc (suc zero))))) = tt
-    at (suc (suc (suc (suc (suc (suc zero)))))) = tt
-    at (suc (suc (suc (suc (suc (suc (suc j))))))) = tt
+    at (suc (suc (suc (suc j)))) = tt
 
 module _ (r : Row) (low : RowLow r) {line : Line} (is : line ≡ lineOf r) (old : List ℕ) (at : ℕ)
     (room : at + mostLine ≤ length old) (put : Written) (new : List ℕ)

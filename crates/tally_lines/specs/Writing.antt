@@ -1,6 +1,6 @@
 -- How the lines that end a stream are written.
 --
---   fieldOf, lineOf   a row's HBR line as `line_layouts` holds it
+--   fieldOf, rowFields, lineOf   a row's HBR line as `line_layouts` holds it
 --   mostLine          bytes that no such line passes, and mostRefused, that no refusal's line does
 --   LaidAt            what a writer that lays bytes at an offset returns and leaves
 --   RowLow            a row's numbers, of four bytes at most
@@ -14,25 +14,16 @@ use Rattle.line_layouts.specs.declared.Tag.the-variants.{Hbr}
 use Rattle.line_layouts.specs.declared.Said.the-variants as said
 use Rattle.line_layouts.specs.declared.Field.{Field}
 use Rattle.line_layouts.specs.declared.Line.{Line}
-use Rattle.line_layouts.specs.Entries.{noField}
+use Rattle.line_layouts.specs.Entries.{padded}
 
 abbrev pub fieldOf : ℕ → Field
 fieldOf n = record { said = said.Number n }
 
+abbrev pub rowFields : Row → List Field
+rowFields r = fieldOf (r .head) ∷ fieldOf (r .site) ∷ fieldOf (r .bin) ∷ fieldOf (r .count) ∷ []
+
 abbrev pub lineOf : Row → Line
-lineOf r =
-    record {
-      tag = Hbr;
-      fields =
-          fieldOf (r .head) ∷
-          fieldOf (r .site) ∷
-          fieldOf (r .bin) ∷
-          fieldOf (r .count) ∷
-          noField ∷
-          noField ∷
-          noField ∷
-          [];
-    }
+lineOf r = record { tag = Hbr; fields = padded (rowFields r) }
 
 -- four bytes, and four numbers of at most ten digits, each with the byte behind it
 abbrev pub mostLine : ℕ

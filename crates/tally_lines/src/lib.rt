@@ -139,6 +139,13 @@ fn row_line(row: Row) -> Line
             missing,
             missing,
             missing,
+            missing,
+            missing,
+            missing,
+            missing,
+            missing,
+            missing,
+            missing,
         ],
     }
 }

@@ -10,7 +10,7 @@ use Rattle.answers.specs.declared.Answer.the-variants.{NotSound}
 use Rattle.session.specs.declared.Verdict.{Verdict}
 use Rattle.session.specs.declared.Verdict.the-variants.{Refused, Taken, Wanted}
 use Rattle.session.specs.declared.Session.{Session}
-use Rattle.session.specs.Session.{partsOf, isStart}
+use Rattle.session.specs.Session.{isStart}
 use Rattle.session.specs.Verdicts.{verdictAnswer}
 use Rattle.first_record.specs.First.{judgeFirst}
 use Rattle.judging.specs.Judge.{verdictOn}
@@ -39,7 +39,7 @@ first-answer h rec fine opened start =
     let s = slotAt h 0 .session in
     ap (λ (o : Answered). o .answer) (deliver-judged h 0 rec fine (omega arith) opened)
     ∙ settled-first h s rec (verdictOn s rec) (judged-begins s rec start)
-    ∙ ap verdictAnswer (judged-first (s .standing) (partsOf s) rec start)
+    ∙ ap verdictAnswer (judged-first (s .standing) (s .parts) rec start)
 
 pub unsound-answer : (h : House) (rec : List ℕ) → sound h ≡ false → deliver h 0 rec .answer ≡ NotSound
 unsound-answer h rec wrong = rw (deliver-unsound h 0 rec wrong)

@@ -3,12 +3,11 @@
 use mathlib.Core.Path.{_≡_, refl, ap, sym, subst, _∙_}
 use mathlib.Core.Bool.{Bool, true, false, false≢true}
 use mathlib.Core.List.{List}
-use Prim.Native.Nat.{ℕ}
+use Prim.Native.Nat.{ℕ, _+_, _-_}
 use native.Mathlib.Omega.{arith}
 use Rattle.numbers.specs.declared.Order.{Order}
 use Rattle.kinds.specs.declared.Kind.{Kind}
-use Rattle.kinds.specs.declared.Kind.the-variants.{Far, Atr, Mir, Mrr, Pcr, Hbr, Sbr, Rdr, Sdr, Pir, Prr, Remaining}
-use Rattle.kinds.specs.declared.Kind.the-variants.{Custom, Unknown}
+use Rattle.kinds.specs.declared.Kind.the-variants.{Mrr}
 use Rattle.kinds.specs.Kinds.{kindOf}
 use Rattle.frames.specs.Frames.{recTyp, recSub}
 use Rattle.order.specs.declared.Place.{Place}
@@ -16,7 +15,7 @@ use Rattle.order.specs.declared.Place.the-variants.{Start, Header, Lot, Setup, 
 use Rattle.order.specs.declared.Step.the-variants.{To, OutOfPlace}
 use Rattle.order.specs.Order.{goes}
 use Rattle.order.specs.Laws.{ended as isEnded}
-use Rattle.order.proofs.Laws.{ended-by-mrr, never-start}
+use Rattle.order.proofs.Laws.{by-word, ended-by-mrr, never-start}
 use Rattle.session.specs.declared.Session.{Session}
 use Rattle.session.specs.declared.Standing.{Standing}
 use Rattle.session.specs.declared.Verdict.{Verdict}
@@ -26,7 +25,7 @@ use Rattle.session.proofs.Laws.{past-start}
 use Rattle.settling.specs.Settling.{changed}
 use Rattle.first_record.specs.First.{orderIn}
 use Rattle.first_record.proofs.Checks.{first-cases}
-use Rattle.kind_effects.specs.Effects.{withPcr, withPart, withResult}
+use Rattle.kind_effects.specs.Effects.{withPcr, withPart, withResult, withWafers}
 use Rattle.kind_effects.proofs.Cases.{said-cases}
 use Rattle.later_records.specs.Later.{at}
 use Rattle.later_records.proofs.Checks.{later-cases}
@@ -37,20 +36,12 @@ use Rattle.tallying.specs.Told.{isMrr}
 -- ---- MRR and the end
 
 mrr-kind : (k : Kind) → isMrr k ≡ true → k ≡ Mrr
-mrr-kind Far e = absurd (false≢true e)
-mrr-kind Atr e = absurd (false≢true e)
-mrr-kind Mir e = absurd (false≢true e)
-mrr-kind Mrr e = refl
-mrr-kind Pcr e = absurd (false≢true e)
-mrr-kind Hbr e = absurd (false≢true e)
-mrr-kind Sbr e = absurd (false≢true e)
-mrr-kind Rdr e = absurd (false≢true e)
-mrr-kind Sdr e = absurd (false≢true e)
-mrr-kind Pir e = absurd (false≢true e)
-mrr-kind Prr e = absurd (false≢true e)
-mrr-kind (Remaining k) e = absurd (false≢true e)
-mrr-kind Custom e = absurd (false≢true e)
-mrr-kind Unknown e = absurd (false≢true e)
+mrr-kind =
+    by-word (λ (j : Kind). isMrr j ≡ true → j ≡ Mrr)
+    (λ j o e. absurd (false≢true (rw (o .word) at e)))
+    (λ e. absurd (false≢true e)) (λ e. absurd (false≢true e)) (λ e. absurd (false≢true e))
+    (λ e. absurd (false≢true e)) (λ e. absurd (false≢true e))
+    (λ e. refl)
 
 nowhere : (q : Place) → OutOfPlace ≡ To q → isEnded q ≡ true
 nowhere q e = let never : _≡_ {A = ℕ} 0 1 = cc in absurd (omega arith)
@@ -95,7 +86,7 @@ module _ (s : Session) (rec : List ℕ) where
       → Leads (orderIn rec) s rec (verdictOn s rec)
   unfolding changed
   first-leads starts other =
-      subst (Leads (orderIn rec) s rec) (sym (judged-first (s .standing) (partsOf s) rec starts))
+      subst (Leads (orderIn rec) s rec) (sym (judged-first (s .standing) (s .parts) rec starts))
       (first-cases (partsOf s) (Leads (orderIn rec) s rec) (λ a own. tt) (s .standing) rec
       (λ order is. record { follows = (refl, sym is); ended = sym other }))
 
@@ -104,8 +95,8 @@ module _ (s : Session) (rec : List ℕ) where
   later-leads further =
       let st = s .standing in
       let P = Leads (st .order) s rec in
-      subst P (sym (judged-later st (partsOf s) rec further))
-      (later-cases (partsOf s) P (λ a own. tt) st rec (λ k q r named to fits.
+      subst P (sym (judged-later st (s .parts) rec further))
+      (later-cases st (s .parts) P (λ a own. tt) rec (λ k q r named to fits.
       let next : Stands (st .order) rec (at st q) = record {
         follows = (past-start q (never-start (st .place) q k to), refl);
         ended = ended-mrr (st .place) q k to ∙ ap isMrr (sym named);
@@ -115,6 +106,8 @@ module _ (s : Session) (rec : List ℕ) where
         follows = (ap isStart is ∙ next .follows .0, same);
         ended = ap isEnded is ∙ next .ended;
       } in
-      said-cases (partsOf s) P (λ a own. tt) (at st q) r (λ quieted. next)
+      said-cases (at st q) (s .parts) P (λ a own. tt) r (λ quieted. next)
       (λ p is. moved (withPcr (at st q)) refl refl) (λ p is new few. moved (withPart (at st q)) refl refl)
-      (λ p is there few. moved (withResult (at st q)) refl refl) (λ is done. next)))
+      (λ p is there few. moved (withResult (at st q)) refl refl) (λ is done. next)
+      (λ w is new few. moved (withWafers (at st q) (st .wafers + 1)) refl refl)
+      (λ w is there. moved (withWafers (at st q) (st .wafers - 1)) refl refl)))

@@ -11,11 +11,9 @@ fn remaining_number(kind: Remaining) -> usize
     ensures { λ r. ⌜ r ≤ 24 ⌝ }
 {
     match kind {
-        Remaining::Pmr => 11,
-        Remaining::Pgr => 12,
-        Remaining::Plr => 13,
-        Remaining::Wir => 14,
-        Remaining::Wrr => 15,
+        Remaining::Pmr => 13,
+        Remaining::Pgr => 14,
+        Remaining::Plr => 15,
         Remaining::Wcr => 16,
         Remaining::Tsr => 17,
         Remaining::Ptr => 18,
@@ -41,8 +39,10 @@ fn kind_number(kind: Kind) -> usize
         Kind::Sbr => 6,
         Kind::Rdr => 7,
         Kind::Sdr => 8,
-        Kind::Pir => 9,
-        Kind::Prr => 10,
+        Kind::Wir => 9,
+        Kind::Wrr => 10,
+        Kind::Pir => 11,
+        Kind::Prr => 12,
         Kind::Remaining(k) => remaining_number(k),
         Kind::Custom => 25,
         Kind::Unknown => 26,
@@ -65,7 +65,7 @@ fn say_kind_part(from: usize, end: usize)
     requires { ⌜ end ≤ 88 ⌝ }
 {
     let names =
-        *b"FARATRMIRMRRPCRHBRSBRRDRSDRPIRPRRPMRPGRPLRWIRWRRWCRTSRPTRMPRFTRBPSEPSGDRDTRcustomunknown";
+        *b"FARATRMIRMRRPCRHBRSBRRDRSDRWIRWRRPIRPRRPMRPGRPLRWCRTSRPTRMPRFTRBPSEPSGDRDTRcustomunknown";
     if from <= end {
         say(&names[from..end]);
     }

@@ -64,7 +64,7 @@ refused-same : (room : Room) (c : Core) (rec : List ℕ) (o : Outcome) → o ≡
     → (numberOf (o .answer) ≡ 0 → ⊥) → o .core ≡ c
 unfolding delivered
 refused-same room c rec o is not =
-    let v = judge (c .standing) (take (c .standing .opened) (c .parts)) rec in
+    let v = judge (c .standing) (c .parts) rec in
     let told : o ≡ settled room c v = is in
     ap (λ (x : Outcome). x .core) told
     ∙ settled-same room c v (λ e. not (ap (λ (x : Outcome). numberOf (x .answer)) told ∙ ap numberOf e))

@@ -153,14 +153,14 @@ module _ (room : Room) (most : ℕ) (keys counts parts : List ℕ) (s : Stage) (
     inside =
         body-told (s .place) (both-right (eqb sub 10 || (eqb sub 15 || eqb sub 20)) (isBody (s .place)) behind)
 
-    judged : judge (stageStanding s) (take (s .opened) parts) (take n (rest s bytes)) ≡ Taken (stands (stageStanding s))
+    judged : judge (stageStanding s) parts (take n (rest s bytes)) ≡ Taken (stands (stageStanding s))
     unfolding isTest
     judged =
         let rec = take n (rest s bytes) in
         let st = stageStanding s in
         let later : isStart (s .place) ≡ false = rw inside in
         let framed = one-framed st n (rest s bytes) later is (omega (arith, there, length-drop (s .at) bytes)) in
-        test-taken st (take (s .opened) parts) rec inside framed
+        test-taken st parts rec inside framed
         (header-byte 2 (omega arith)
         ∙ eqb-true typ 15
         (both-left (eqb typ 15) ((eqb sub 10 || (eqb sub 15 || eqb sub 20)) && isBody (s .place)) test))

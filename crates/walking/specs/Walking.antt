@@ -50,6 +50,7 @@ stage used st k fate at more =
       opened = st .opened;
       pcr = st .pcr;
       results = st .results;
+      wafers = st .wafers;
       accepted = k;
       fate = fate;
       at = at;
@@ -58,7 +59,14 @@ stage used st k fate at more =
 
 abbrev pub stageStanding : Stage → Standing
 stageStanding s =
-    record { place = s .place; order = s .order; opened = s .opened; pcr = s .pcr; results = s .results }
+    record {
+      place = s .place;
+      order = s .order;
+      opened = s .opened;
+      pcr = s .pcr;
+      results = s .results;
+      wafers = s .wafers;
+    }
 
 -- what its rows and parts, which are lent, and its fields make
 abbrev pub stageProgress : List ℕ → List ℕ → List ℕ → Stage → Progress

@@ -34,6 +34,7 @@ pub struct Stage {
     pub opened: usize,
     pub pcr: bool,
     pub results: u32,
+    pub wafers: usize,
     pub accepted: u64,
     pub fate: Fate,
     pub at: usize,

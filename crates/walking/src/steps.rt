@@ -26,6 +26,7 @@ pub fn standing_of(s: Stage) -> Standing
         opened: s.opened,
         pcr: s.pcr,
         results: s.results,
+        wafers: s.wafers,
     }
 }
 
@@ -49,6 +50,7 @@ pub fn stage_of(
         opened: st.opened,
         pcr: st.pcr,
         results: st.results,
+        wafers: st.wafers,
         accepted,
         fate,
         at,
@@ -69,6 +71,7 @@ fn stay(s: Stage, fate: Fate) -> Stage
         opened: s.opened,
         pcr: s.pcr,
         results: s.results,
+        wafers: s.wafers,
         accepted: s.accepted,
         fate,
         at: s.at,
@@ -119,6 +122,7 @@ fn take_record(
             opened: st.opened,
             pcr: st.pcr,
             results: st.results,
+            wafers: st.wafers,
             accepted: s.accepted + 1,
             fate: Fate::Going,
             at: next,
@@ -164,6 +168,7 @@ fn step(
             opened: s.opened,
             pcr: s.pcr,
             results: s.results,
+            wafers: s.wafers,
             accepted: s.accepted + 1,
             fate: Fate::Going,
             at: at + n,

@@ -72,6 +72,18 @@ returns-21 c = (rw (c .enum-told20 .given .1), tt)
 returns-22 : tie.Need-returns-22
 returns-22 c = (rw (c .enum-told21 .given .1), tt)
 
+returns-23 : tie.Need-returns-23
+returns-23 c = (rw (c .enum-told22 .given .1), tt)
+
+returns-24 : tie.Need-returns-24
+returns-24 c = (rw (c .enum-told23 .given .1), tt)
+
+returns-25 : tie.Need-returns-25
+returns-25 c = (rw (c .enum-told24 .given .1), tt)
+
+returns-26 : tie.Need-returns-26
+returns-26 c = (rw (c .enum-told25 .given .1), tt)
+
 -- ---- found by search
 
 enum-told : tie.Need-enum-told
@@ -143,6 +155,18 @@ enum-told-20 c = search needs
 enum-told-21 : tie.Need-enum-told-21
 enum-told-21 c = search needs
 
+enum-told-22 : tie.Need-enum-told-22
+enum-told-22 c = search needs
+
+enum-told-23 : tie.Need-enum-told-23
+enum-told-23 c = search needs
+
+enum-told-24 : tie.Need-enum-told-24
+enum-told-24 c = search needs
+
+enum-told-25 : tie.Need-enum-told-25
+enum-told-25 c = search needs
+
 pub said-spec : {M : Type 1} → statement M
 said-spec =
     tie.close
@@ -170,6 +194,10 @@ said-spec =
     enum-told-19
     enum-told-20
     enum-told-21
+    enum-told-22
+    enum-told-23
+    enum-told-24
+    enum-told-25
     returns
     returns-2
     returns-3
@@ -191,4 +219,8 @@ said-spec =
     returns-19
     returns-20
     returns-21
-    returns-22)
+    returns-22
+    returns-23
+    returns-24
+    returns-25
+    returns-26)

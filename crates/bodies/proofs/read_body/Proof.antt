@@ -39,11 +39,11 @@ returns-8 c = rw (c .before .enum-told8 .given .1) (c .read-prr .ensures)
 
 returns-9 : tie.Need-returns-9
 unfolding readBody
-returns-9 c = rw (c .enum-told9 .given .1)
+returns-9 c = rw (c .before .enum-told9 .given .1) (c .read-wir .ensures)
 
 returns-10 : tie.Need-returns-10
 unfolding readBody
-returns-10 c = rw (c .enum-told10 .given .1)
+returns-10 c = rw (c .before .enum-told10 .given .1) (c .read-wrr .ensures)
 
 returns-11 : tie.Need-returns-11
 unfolding readBody
@@ -60,6 +60,14 @@ returns-13 c = rw (c .enum-told13 .given .1)
 returns-14 : tie.Need-returns-14
 unfolding readBody
 returns-14 c = rw (c .enum-told14 .given .1)
+
+returns-15 : tie.Need-returns-15
+unfolding readBody
+returns-15 c = rw (c .enum-told15 .given .1)
+
+returns-16 : tie.Need-returns-16
+unfolding readBody
+returns-16 c = rw (c .enum-told16 .given .1)
 
 -- ---- found by search
 
@@ -114,8 +122,14 @@ read-prr-requires c κs = search needs
 enum-told-9 : tie.Need-enum-told-9
 enum-told-9 c = search needs
 
+read-wir-requires : tie.Need-read-wir-requires
+read-wir-requires c κs = search needs
+
 enum-told-10 : tie.Need-enum-told-10
 enum-told-10 c = search needs
+
+read-wrr-requires : tie.Need-read-wrr-requires
+read-wrr-requires c κs = search needs
 
 enum-told-11 : tie.Need-enum-told-11
 enum-told-11 c = search needs
@@ -128,6 +142,12 @@ enum-told-13 c = search needs
 
 enum-told-14 : tie.Need-enum-told-14
 enum-told-14 c = search needs
+
+enum-told-15 : tie.Need-enum-told-15
+enum-told-15 c = search needs
+
+enum-told-16 : tie.Need-enum-told-16
+enum-told-16 c = search needs
 
 pub read-body-spec : {M : Type 1} → statement M
 read-body-spec =
@@ -150,11 +170,15 @@ read-body-spec =
     enum-told-8
     read-prr-requires
     enum-told-9
+    read-wir-requires
     enum-told-10
+    read-wrr-requires
     enum-told-11
     enum-told-12
     enum-told-13
     enum-told-14
+    enum-told-15
+    enum-told-16
     returns
     returns-2
     returns-3
@@ -168,4 +192,6 @@ read-body-spec =
     returns-11
     returns-12
     returns-13
-    returns-14)
+    returns-14
+    returns-15
+    returns-16)

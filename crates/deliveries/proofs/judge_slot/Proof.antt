@@ -11,7 +11,7 @@ use Rattle.judging.proofs.Laws.{judged-settles}
 use Rattle.deliveries.proofs.judge_slot.Statement.{statement}
 use Rattle.deliveries.proofs.judge_slot.Tie as tie
 
-cells : (c : tie.Start) → length (c .args .s .session .parts) ≡ 32
+cells : (c : tie.Start) → length (c .args .s .session .parts) ≡ 40
 cells c = search needs
 
 lent : (c : tie.Start) → LentParts (c .args .s .session .standing) (c .args .s .session .parts)
@@ -25,7 +25,7 @@ returns c =
     let start = c .before .before .before .before .before in
     let s = start .args .s .session in (
       c .judge-lent .ensures,
-      subst (Settles (s .standing .opened)) (sym (c .judge-lent .ensures))
+      subst (Settles (s .standing)) (sym (c .judge-lent .ensures))
           (judged-settles (s .standing) (s .parts) (now (start .args .rec)) (lent start)),
     )
 

@@ -13,7 +13,7 @@ use Rattle.house.proofs.Calling.{told-lent, room-is, own-within, lent-to, laid-
 use Rattle.deliveries.proofs.settle_rows.Statement.{statement}
 use Rattle.deliveries.proofs.settle_rows.Tie as tie
 
-cells : (c : tie.Start) → length (c .args .s .session .parts) ≡ 32
+cells : (c : tie.Start) → length (c .args .s .session .parts) ≡ 40
 cells c = search needs
 
 paired : (c : tie.Start) → length (c .args .house .counts) ≡ 1024

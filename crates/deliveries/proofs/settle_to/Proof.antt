@@ -1,28 +1,14 @@
 -- `deliveries::settle_to` meets its contract: a verdict that asks for no row changes the session of its slot alone.
 -- Assumes nothing.
-use mathlib.Core.Path.{_≡_, ap, sym, _∙_}
-use mathlib.Core.Bool.{true}
+use mathlib.Core.Path.{_∙_}
 use borrow.Author.Needs.{needs}
-use Rattle.session.specs.Session as session
-use Rattle.session.proofs.Laws.{sound-parts-told}
 use Rattle.settling.proofs.Laws.{settles-taken}
-use Rattle.house.specs.declared.Slot.{Slot}
-use Rattle.house.proofs.Calling.{open-session, laid-refused, laid-taken}
+use Rattle.house.proofs.Calling.{laid-refused, laid-taken}
 use Rattle.deliveries.proofs.settle_to.Statement.{statement}
 use Rattle.deliveries.proofs.settle_to.Tie as tie
 
-sounded : (c : tie.Start) → session.sound (c .args .s .session) ≡ true
-sounded c =
-    rw (c .pre .is)
-    (open-session (c .args .house) (c .args .i) (c .pre .sound) (c .pre .slots) (c .pre .inside)
-    (ap (λ (x : Slot). x .taken) (sym (c .pre .is)) ∙ c .pre .taken))
-
 settle-requires : tie.Need-settle-requires
-settle-requires c κs =
-    let start = c .before .before .before in (
-      sound-parts-told (start .args .s .session) (sounded start) .few,
-      settles-taken _ (start .pre .fits) (c .before .verdict2 .given .1),
-    )
+settle-requires c κs = settles-taken _ (c .before .before .before .pre .fits) (c .before .verdict2 .given .1)
 
 returns : tie.Need-returns
 returns c =

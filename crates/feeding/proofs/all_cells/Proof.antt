@@ -12,7 +12,7 @@ use Rattle.feeding.proofs.all_cells.Tie as tie
 
 abbrev Inv-loop : tie.InvT-loop
 Inv-loop slots i₀ i =
-    (length slots ≡ 16) × (i ≤ 16) × ((j : ℕ) → j < i → length (getD slots j noSlot .session .parts) ≡ 32)
+    (length slots ≡ 16) × (i ≤ 16) × ((j : ℕ) → j < i → length (getD slots j noSlot .session .parts) ≡ 40)
 
 abbrev μ-loop : tie.MeasureT-loop
 μ-loop slots i₀ i = 16 - i

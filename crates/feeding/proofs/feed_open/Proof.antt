@@ -2,13 +2,14 @@
 -- Assumes nothing.
 use mathlib.Core.Path.{_≡_, refl, ap, sym, _∙_}
 use mathlib.Core.List.{_++_}
-use Prim.Native.Nat.{_-_, _≤_}
+use Prim.Native.Nat.{_-_, _≤_, _<_}
 use native.Mathlib.Omega.{arith}
 use lib.ListN.{length, take}
 use denote.Ref.{now}
 use borrow.Author.Needs.{needs}
 use Rattle.numbers.specs.Laws.{Bytes}
 use Rattle.numbers.proofs.Laws.{part-bytes, bytes-append}
+use Rattle.rows.specs.Rows.{slotCount}
 use Rattle.house.specs.declared.Slot.{Slot}
 use Rattle.house.specs.House.{carryLength, keysOf}
 use Rattle.house.specs.Calls.{roomOf}
@@ -96,6 +97,21 @@ returns c =
     (range roomy) (seen roomy) _ _ _ (did .pour-all .result) _ (did .pour-all .kept .1 .1 .1 .1 .1 .1 .0)
     (did .pour-all .ensures) (c .before .before .answer-of .ensures) (c .fed .ensures)
 
+-- the slot is one of the sixteen
+abbrev asked : tie.After-slots → tie.Start
+asked c =
+    start (c .before .before .before .before .before .before .before .before .before .before .before .before .before .before
+    .before .before .before .before)
+
+inside : (c : tie.After-slots) → asked c .args .i < slotCount
+inside c = asked c .pre .inside
+
+mul-slots : tie.Need-mul-slots
+mul-slots c = search (needs, inside c)
+
+array-set-from-slots : tie.Need-array-set-from-slots
+array-set-from-slots c = search (needs, inside c)
+
 -- ---- found by search
 
 slice-aggregate-pour-all : tie.Need-slice-aggregate-pour-all
@@ -112,12 +128,6 @@ slice-aggregate-pour-all-4 c = search needs
 
 answer-of-requires : tie.Need-answer-of-requires
 answer-of-requires c κs = search needs
-
-mul-slots : tie.Need-mul-slots
-mul-slots c = search needs
-
-array-set-from-slots : tie.Need-array-set-from-slots
-array-set-from-slots c = search needs
 
 fed-requires : tie.Need-fed-requires
 fed-requires c κs = search needs

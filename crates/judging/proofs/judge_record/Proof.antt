@@ -1,5 +1,5 @@
--- `judging::judge_record` meets its contract: a sound session's parts may be lent, and a part opens and closes among
--- the open ones.
+-- `judging::judge_record` meets its contract: a sound session's cells may be lent, and a part or a wafer opens and
+-- closes among the open ones.
 -- Assumes nothing.
 use mathlib.Core.Path.{_≡_, sym, subst, _∙_}
 use mathlib.Core.Bool.{true}
@@ -7,13 +7,13 @@ use lib.ListN.{length}
 use denote.Ref.{now}
 use borrow.Author.Needs.{needs}
 use Rattle.session.specs.Session.{sound}
-use Rattle.session.proofs.Laws.{sound-parts-told, sound-lent}
+use Rattle.session.proofs.Laws.{sound-lent}
 use Rattle.settling.specs.Settling.{Settles}
 use Rattle.judging.proofs.Laws.{judged-settles, judged-settled, judged-unsound}
 use Rattle.judging.proofs.judge_record.Statement.{statement}
 use Rattle.judging.proofs.judge_record.Tie as tie
 
-long : (c : tie.Start) → length (c .args .session .parts) ≡ 32
+long : (c : tie.Start) → length (c .args .session .parts) ≡ 40
 long c = search needs
 
 sounded : (c : tie.Then1) → sound (c .before .before .before .args .session) ≡ true
@@ -28,11 +28,9 @@ settle-verdict-requires : tie.Need-settle-verdict-requires
 settle-verdict-requires c κs =
     let fine = c .before .before .before .before in
     let start = fine .before .before .before in
-    let s = start .args .session in (
-      sound-parts-told s (sounded fine) .few,
-      subst (Settles (s .standing .opened)) (sym (c .judge-cells .ensures))
-          (judged-settles (s .standing) (s .parts) (now (start .args .rec)) (sound-lent s (long start) (sounded fine))),
-    )
+    let s = start .args .session in
+    subst (Settles (s .standing)) (sym (c .judge-cells .ensures))
+    (judged-settles (s .standing) (s .parts) (now (start .args .rec)) (sound-lent s (long start) (sounded fine)))
 
 returns : tie.Need-returns
 returns c =

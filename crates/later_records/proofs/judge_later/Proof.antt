@@ -4,7 +4,6 @@
 use mathlib.Core.Path.{subst, _≡_, ap, sym, _∙_}
 use mathlib.Core.Bool.{true}
 use native.Mathlib.Omega.{arith}
-use lib.ListN.{take}
 use denote.Ref.{now}
 use borrow.Author.Tests.{not-true, not-false}
 use borrow.Author.Needs.{needs}
@@ -106,8 +105,7 @@ returns-5 c =
     let a = named .before .before .before .before .before .before .before .args in
     let fit = c .before .before .before in
     c .judge-said .ensures
-    ∙ ap (λ (s : Standing). judgeSaid s (take (s .opened) (now (a .parts))) (fit .reading .given .0 .0))
-    (c .before .placed .ensures)
+    ∙ ap (λ (s : Standing). judgeSaid s (now (a .parts)) (fit .reading .given .0 .0)) (c .before .placed .ensures)
     ∙ sym
     (later-said _ _ _ (framed (named .before .before .before)) _ (named .kind-of .ensures) (known-there told) _
     (stepped kt) _ (sym (read (fit .before .before)) ∙ fit .reading .given .1))

@@ -19,7 +19,7 @@ settle-lent-requires c κs =
     let judged = c .before .before .before .before in
     let begun = start judged in (
       begun .pre,
-      subst (Settles (begun .args .st .opened)) (sym (judged .judge-lent .ensures))
+      subst (Settles (begun .args .st)) (sym (judged .judge-lent .ensures))
           (judged-settles _ _ _ (begun .pre .kept)),
     )
 

@@ -32,7 +32,7 @@ note c =
 settle-parts-requires : tie.Need-settle-parts-requires
 settle-parts-requires c κs =
     let given = start (taken (c .before .before .before .before)) .pre in
-    (given .0 .cells, given .0 .kept .few, given .1)
+    (given .0 .cells, given .1)
 
 returns : tie.Need-returns
 returns c =

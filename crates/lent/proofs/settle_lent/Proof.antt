@@ -15,7 +15,7 @@ settle-parts-requires : tie.Need-settle-parts-requires
 settle-parts-requires c κs =
     let taken = c .before .before in
     let given = start (taken .before .before) .pre in
-    (given .0 .cells, given .0 .kept .few, settles-taken _ (given .1) (taken .verdict2 .given .1))
+    (given .0 .cells, settles-taken _ (given .1) (taken .verdict2 .given .1))
 
 result-lent-requires : tie.Need-result-lent-requires
 result-lent-requires c κs =

@@ -37,7 +37,7 @@ put-fields-returns : (t : ℕ) → put-fields-lts.Need-returns (
 put-fields-returns t c =
     let s = c .before .before .before in
     let a = s .args in
-    rw (rest-ends (now (a .source)) (a .line) (s .pre .1 .0 .seven) (a .layout) (a .j) (a .n) (c .if1 .taken))
+    rw (rest-ends (now (a .source)) (a .line) (s .pre .1 .0 .full) (a .layout) (a .j) (a .n) (c .if1 .taken))
     record { count = refl; laid = refl }
 
 put-fields-put-nth-requires : (t : ℕ) → put-fields-lts.Need-put-nth-requires (
@@ -50,7 +50,7 @@ put-fields-put-nth-requires t c κs =
     let s = c .before .before .before .before in
     let a = s .args in
     let src = now (a .source) in
-    let on = rest-on src (a .line) (s .pre .1 .0 .seven) (a .layout) (a .j) (a .n)
+    let on = rest-on src (a .line) (s .pre .1 .0 .full) (a .layout) (a .j) (a .n)
     (omega (arith, c .before .if1 .left)) (s .pre .1 .1) in (
       record { there = s .pre .1 .0; before = omega (arith, c .before .if1 .left); few = s .pre .1 .1 },
       first (nthBytes (a .layout) src (a .line) (a .j) (a .n)) (restOf (a .layout) src (a .line) (a .j + 1) (a .n))
@@ -68,7 +68,7 @@ put-fields-sub-put-fields t c =
     let a = s .args in
     let src = now (a .source) in
     let p = c .before .before .put-nth in
-    let on = rest-on src (a .line) (s .pre .1 .0 .seven) (a .layout) (a .j) (a .n)
+    let on = rest-on src (a .line) (s .pre .1 .0 .full) (a .layout) (a .j) (a .n)
     (omega (arith, c .before .before .before .before .if1 .left)) (s .pre .1 .1) in
     inside (nthBytes (a .layout) src (a .line) (a .j) (a .n)) (restOf (a .layout) src (a .line) (a .j + 1) (a .n))
     (now (a .out)) (rw on at (s .pre .1 .2)) (p .last .0) (p .result) (p .ensures)
@@ -110,7 +110,7 @@ put-fields-put-fields-requires t c κs =
     let a = s .args in
     let src = now (a .source) in
     let p = c .before .before .before .put-nth in
-    let on = rest-on src (a .line) (s .pre .1 .0 .seven) (a .layout) (a .j) (a .n)
+    let on = rest-on src (a .line) (s .pre .1 .0 .full) (a .layout) (a .j) (a .n)
     (omega (arith, c .before .before .before .before .before .if1 .left)) (s .pre .1 .1) in (
       omega (arith, s .pre .0, c .before .before .before .before .before .if1 .left),
       (
@@ -134,7 +134,7 @@ put-fields-returns-2 t c =
     let src = now (a .source) in
     let p = c .before .before .before .before .before .before .put-nth in
     let q = c .before .before .put-fields in
-    let on = rest-on src (a .line) (s .pre .1 .0 .seven) (a .layout) (a .j) (a .n)
+    let on = rest-on src (a .line) (s .pre .1 .0 .full) (a .layout) (a .j) (a .n)
     (omega (arith, c .before .before .before .before .before .before .before .before .if1 .left)) (s .pre .1 .1) in
     rw on
     (both (nthBytes (a .layout) src (a .line) (a .j) (a .n)) (restOf (a .layout) src (a .line) (a .j + 1) (a .n))

@@ -9,7 +9,7 @@ use Rattle.line_laying.proofs.entry_size.Statement.{statement}
 use Rattle.line_laying.proofs.entry_size.Tie as tie
 
 returns-2 : tie.Need-returns-2
-returns-2 c = rw (c .before .before .said .given .1) (c .width .ensures .0, omega arith)
+returns-2 c = rw (c .before .before .said .given .1) (c .spelt-size .ensures .0, omega arith)
 
 returns-3 : tie.Need-returns-3
 returns-3 c =
@@ -26,8 +26,8 @@ enum-told c = search needs
 enum-known-said : tie.Need-enum-known-said
 enum-known-said c = search needs
 
-width-requires : tie.Need-width-requires
-width-requires c κs = search needs
+spelt-size-requires : tie.Need-spelt-size-requires
+spelt-size-requires c κs = search needs
 
 enum-known-said-2 : tie.Need-enum-known-said-2
 enum-known-said-2 c = search needs
@@ -41,7 +41,7 @@ entry-size-spec =
     (tie.spec
     enum-told
     enum-known-said
-    width-requires
+    spelt-size-requires
     enum-known-said-2
     returns
     returns-2

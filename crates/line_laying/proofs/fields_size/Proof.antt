@@ -37,7 +37,7 @@ loop-again c =
     let l = c .before .before in
     let s = l .before .before in
     let a = s .args in
-    let on = rest-length (now (a .source)) (a .line) (s .pre .0 .seven) (a .layout) (l .loop .j) (a .n)
+    let on = rest-length (now (a .source)) (a .line) (s .pre .0 .full) (a .layout) (l .loop .j) (a .n)
     (omega arith) (s .pre .1) in
     (omega arith, omega (arith, c .nth-size .ensures .1), omega (arith, c .nth-size .ensures .0, on, l .loop .inv .2))
 
@@ -46,7 +46,7 @@ returns c =
     let l = c .before in
     let s = l .before .before in
     let a = s .args in
-    let none = ap length (rest-ends (now (a .source)) (a .line) (s .pre .0 .seven) (a .layout) (l .loop .j) (a .n)
+    let none = ap length (rest-ends (now (a .source)) (a .line) (s .pre .0 .full) (a .layout) (l .loop .j) (a .n)
     (omega arith)) in
     (omega (arith, none, l .loop .inv .2), omega arith)
 

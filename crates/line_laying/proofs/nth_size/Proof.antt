@@ -49,9 +49,11 @@ unfolding nthBytes
 returns c =
     let a = c .before .before .before .before .before .before .before .args in
     let is = c .before .before .before .before .said-at in
-    rw (← c .before .before .before .before .before .column-of .ensures, ← is .ensures)
+    let at = c .before .before .before .column-at in
+    let e = entryOf (now (a .source)) (is .result) in
+    rw (← c .before .before .before .before .before .column-of .ensures, ← is .ensures, ← at .ensures)
     (rw (c .before .enum-told .given .1) (
-      marked-size _ (entryOf (now (a .source)) (is .result)) (eqb (a .j + 1) (a .n)) (c .entry-size .ensures .0),
+      marked-size _ (at .result .0) e (eqb (a .j + 1) (a .n)) (c .entry-size .ensures .0),
       omega arith,
     ))
 

@@ -31,7 +31,7 @@ total c =
     laid-size (a .layout) (now (a .source)) (a .line) (c .before .present-count .result) (c .fields-size .result)
     (sized c)
 
-small : (c : tie.After-fields-size) → c .fields-size .result ≤ 1792
+small : (c : tie.After-fields-size) → c .fields-size .result ≤ 3584
 small c =
     let p = c .before .present-count .ensures .few in
     omega (arith, p, most-columns (c .before .before .before .before .args .line .tag), c .fields-size .ensures .1)

@@ -7,8 +7,8 @@ use Rattle.output.proofs.Laws.{length-part}
 use Rattle.line_laying.proofs.put_entry.Statement.{statement}
 use Rattle.line_laying.proofs.put_entry.Tie as tie
 
-put-digits-requires : tie.Need-put-digits-requires
-put-digits-requires c κs =
+put-spelt-requires : tie.Need-put-spelt-requires
+put-spelt-requires c κs =
     rw (c .before .before .said .given .1) at (c .before .before .before .before .before .before .pre .1)
 
 put-part-requires : tie.Need-put-part-requires
@@ -22,7 +22,7 @@ put-part-requires c κs =
 
 returns-2 : tie.Need-returns-2
 returns-2 c =
-    rw (c .before .before .before .before .before .said .given .1) (c .before .before .put-digits .ensures)
+    rw (c .before .before .before .before .before .said .given .1) (c .before .before .put-spelt .ensures)
 
 returns-3 : tie.Need-returns-3
 returns-3 c =
@@ -54,7 +54,7 @@ put-entry-spec =
     (tie.spec
     enum-told
     enum-known-said
-    put-digits-requires
+    put-spelt-requires
     enum-known-said-2
     put-part-requires
     returns

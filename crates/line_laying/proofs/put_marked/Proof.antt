@@ -15,7 +15,7 @@ put-entry-requires c κs =
     let s = c .before .before .before in
     let a = s .args in (
       s .pre .0,
-      first (entryText (entryOf (now (a .source)) (a .said))) (mark (a .sep) (a .last) ∷ []) (now (a .out))
+      first (entryText (a .form) (entryOf (now (a .source)) (a .said))) (mark (a .sep) (a .last) ∷ []) (now (a .out))
           (s .pre .1),
     )
 
@@ -24,7 +24,8 @@ sub-put-byte c =
     let s = c .before .before .before .before .before .before in
     let a = s .args in
     let p = c .before .before .put-entry in
-    inside (entryText (entryOf (now (a .source)) (a .said))) (mark (a .sep) (a .last) ∷ []) (now (a .out)) (s .pre .1)
+    let text = entryText (a .form) (entryOf (now (a .source)) (a .said)) in
+    inside text (mark (a .sep) (a .last) ∷ []) (now (a .out)) (s .pre .1)
     (p .last .0) (p .result) (p .ensures)
 
 part-put-byte-start : tie.Need-part-put-byte-start
@@ -35,7 +36,8 @@ put-byte-requires c κs =
     let s = c .before .before .before .before .before .before .before .before in
     let a = s .args in
     let p = c .before .before .before .before .put-entry in
-    behind (entryText (entryOf (now (a .source)) (a .said))) (mark (a .sep) (a .last) ∷ []) (now (a .out)) (s .pre .1)
+    let text = entryText (a .form) (entryOf (now (a .source)) (a .said)) in
+    behind text (mark (a .sep) (a .last) ∷ []) (now (a .out)) (s .pre .1)
     (p .last .0) (p .result) (p .ensures)
 
 returns : tie.Need-returns
@@ -44,7 +46,8 @@ returns c =
     let a = s .args in
     let p = c .before .before .before .before .before .before .before .put-entry in
     let q = c .before .before .put-byte in
-    both (entryText (entryOf (now (a .source)) (a .said))) (mark (a .sep) (a .last) ∷ []) (now (a .out)) (s .pre .1)
+    let text = entryText (a .form) (entryOf (now (a .source)) (a .said)) in
+    both text (mark (a .sep) (a .last) ∷ []) (now (a .out)) (s .pre .1)
     (p .last .0) (p .result) (p .ensures)
     (q .last .0) (q .result) (rw (c .before .before .before .mark-of .ensures) at (q .ensures))
 

@@ -35,7 +35,8 @@ put-marked-requires c κs =
     let of = c .before .before .before .before .before .before .column-of in
     let is = c .before .before .before .before .before .said-at .ensures in (
       rw is (s .pre .0 .there .within (of .result)),
-      rw (c .before .before .layout .given .1) at (rw (← of .ensures, ← is) at (s .pre .1)),
+      rw (c .before .before .layout .given .1)
+          at (rw (← of .ensures, ← is, ← c .before .before .before .before .column-at .ensures) at (s .pre .1)),
     )
 
 put-stored-requires : tie.Need-put-stored-requires
@@ -55,6 +56,7 @@ returns c =
     rw (
       ← c .before .before .before .before .before .before .before .before .before .column-of .ensures,
       ← c .before .before .before .before .before .before .before .before .said-at .ensures,
+      ← c .before .before .before .before .before .before .before .column-at .ensures,
     )
     (rw (c .before .before .before .before .before .layout .given .1) (c .before .before .put-marked .ensures))
 

@@ -62,6 +62,14 @@ returns-14 : tie.Need-returns-14
 returns-14 c =
     c .other-place8 .ensures ∙ column-of (c .before .before .before .args .place) (c .before .enum-told14 .given .1)
 
+returns-15 : tie.Need-returns-15
+returns-15 c =
+    c .other-place9 .ensures ∙ column-of (c .before .before .before .args .place) (c .before .enum-told15 .given .1)
+
+returns-16 : tie.Need-returns-16
+returns-16 c =
+    c .other-place10 .ensures ∙ column-of (c .before .before .before .args .place) (c .before .enum-told16 .given .1)
+
 -- ---- found by search
 
 enum-told : tie.Need-enum-told
@@ -148,6 +156,18 @@ enum-told-14 c = search needs
 other-place-requires-8 : tie.Need-other-place-requires-8
 other-place-requires-8 c κs = search needs
 
+enum-told-15 : tie.Need-enum-told-15
+enum-told-15 c = search needs
+
+other-place-requires-9 : tie.Need-other-place-requires-9
+other-place-requires-9 c κs = search needs
+
+enum-told-16 : tie.Need-enum-told-16
+enum-told-16 c = search needs
+
+other-place-requires-10 : tie.Need-other-place-requires-10
+other-place-requires-10 c κs = search needs
+
 pub next-place-spec : {M : Type 1} → statement M
 next-place-spec =
     tie.close
@@ -180,6 +200,10 @@ next-place-spec =
     other-place-requires-7
     enum-told-14
     other-place-requires-8
+    enum-told-15
+    other-place-requires-9
+    enum-told-16
+    other-place-requires-10
     returns
     returns-2
     returns-3
@@ -193,4 +217,6 @@ next-place-spec =
     returns-11
     returns-12
     returns-13
-    returns-14)
+    returns-14
+    returns-15
+    returns-16)

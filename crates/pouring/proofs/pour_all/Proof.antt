@@ -104,33 +104,53 @@ pour-rest-requires c κs =
       subst (λ (n : ℕ). goesOn (turn .loop .q) n ≡ false) (inv .1) (sym (out .before .goes-on .ensures) ∙ out .if1 .left),
     )
 
+-- ---- the end
+
+abbrev poured : tie.After-slice-known20 Inv-loop μ-loop → tie.After-pour-rest Inv-loop μ-loop
+poured c = c .before .before .before .before .before .before .before .before .before .before
+
+abbrev turned : tie.After-pour-rest Inv-loop μ-loop → tie.At-loop Inv-loop μ-loop
+turned c = c .before .before .before .before .before .before .before .before
+
+abbrev carried : tie.At-loop Inv-loop μ-loop → tie.After-pour-carry Inv-loop μ-loop
+carried c = c .before .before .before .before .before .before .before .before .before .before .before
+
 returns : tie.Need-returns Inv-loop μ-loop
 returns c =
-    let done = c .before .before .before .before .before .before .before .before .before .before in
-    let turn = done .before .before .before .before .before .before .before .before in
-    let first = turn .before .before .before .before .before .before .before .before .before .before .before in
+    let turn = turned (poured c) in
+    let first = carried turn in
     let s = begun first in
     pours-by
     (turn .loop .inv .0 .is
     ∙ flow-first _ _ _ _ _ _ _ _ _ _ _ (now (s .args .chunk)) (s .pre .0) (s .pre .1) (first .pour-carry .ensures))
-    (done .pour-rest .ensures)
+    (poured c .pour-rest .ensures)
 
--- ---- found by search
+-- ---- what is lent keeps its length
 
 same-length : tie.Need-same-length Inv-loop μ-loop
-same-length c = search needs
+same-length c =
+    let turn = turned (poured c) in
+    poured c .pour-rest .kept .0 ∙ turn .loop .inv .3 ∙ carried turn .pour-carry .kept .0
 
 same-length-2 : tie.Need-same-length-2 Inv-loop μ-loop
-same-length-2 c = search needs
+same-length-2 c =
+    let turn = turned (poured c) in
+    poured c .pour-rest .kept .1 .0 ∙ turn .loop .inv .4 ∙ carried turn .pour-carry .kept .1 .0
 
 same-length-3 : tie.Need-same-length-3 Inv-loop μ-loop
-same-length-3 c = search needs
+same-length-3 c =
+    let turn = turned (poured c) in
+    poured c .pour-rest .kept .1 .1 .0 ∙ turn .loop .inv .5 ∙ carried turn .pour-carry .kept .1 .1 .0
 
 same-length-4 : tie.Need-same-length-4 Inv-loop μ-loop
-same-length-4 c = search needs
+same-length-4 c =
+    let turn = turned (poured c) in
+    poured c .pour-rest .kept .1 .1 .1 .0 ∙ turn .loop .inv .6 ∙ carried turn .pour-carry .kept .1 .1 .1 .0
 
 same-length-5 : tie.Need-same-length-5 Inv-loop μ-loop
-same-length-5 c = search needs
+same-length-5 c =
+    let turn = turned (poured c) in
+    poured c .pour-rest .kept .1 .1 .1 .1 .1 .1 .0 ∙ turn .loop .inv .7 ∙ carried turn .pour-carry .kept .1 .1 .1 .1 .1 .1 .0
 
 pub pour-all-spec : {M : Type 1} → statement M
 pour-all-spec =

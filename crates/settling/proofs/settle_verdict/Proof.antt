@@ -8,13 +8,11 @@ use Rattle.settling.proofs.settle_verdict.Tie as tie
 
 settle-requires : tie.Need-settle-requires
 settle-requires c κs =
-    let start = c .before .before .before in
-    (start .pre .0, settles-taken _ (start .pre .1) (c .before .verdict .given .1))
+    settles-taken _ (c .before .before .before .pre) (c .before .verdict .given .1)
 
 settle-requires-2 : tie.Need-settle-requires-2
 settle-requires-2 c κs =
-    let start = c .before .before .before in
-    (start .pre .0, settles-wanted _ (start .pre .1) (c .before .verdict2 .given .1))
+    settles-wanted _ (c .before .before .before .pre) (c .before .verdict2 .given .1)
 
 returns : tie.Need-returns
 returns c = after-refused _ (c .enum-told .given .1)

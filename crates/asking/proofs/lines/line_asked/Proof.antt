@@ -1,4 +1,4 @@
--- `asking::lines::line_asked` meets its contract: the words of a count line's call, each read.
+-- `asking::lines::line_asked` meets its contract: the words of a record line's call, each read.
 -- Assumes nothing.
 use Rattle.asking.proofs.lines.line_asked.Statement.{statement}
 use Rattle.asking.proofs.lines.line_asked.Tie as tie

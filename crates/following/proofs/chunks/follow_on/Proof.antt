@@ -33,7 +33,7 @@ long c = search needs
 paired : (c : tie.Start) → length (c .args .s .counts) ≡ 1024
 paired c = search needs
 
-cells : (c : tie.Start) → length (c .args .s .parts) ≡ 32
+cells : (c : tie.Start) → length (c .args .s .parts) ≡ 40
 cells c = search needs
 
 range : (c : tie.After-stage-of) → Bytes (now (start c .args .buf))

@@ -13,6 +13,12 @@ bin-column-requires c κs = rw (c .enum-told2 .given .1) at (c .before .before .
 bin-column-requires-2 : tie.Need-bin-column-requires-2
 bin-column-requires-2 c κs = rw (c .enum-told3 .given .1) at (c .before .before .pre)
 
+wir-column-requires : tie.Need-wir-column-requires
+wir-column-requires c κs = rw (c .enum-told4 .given .1) at (c .before .before .pre)
+
+wrr-column-requires : tie.Need-wrr-column-requires
+wrr-column-requires c κs = rw (c .enum-told5 .given .1) at (c .before .before .pre)
+
 -- ---- found by search
 
 enum-told : tie.Need-enum-told
@@ -24,6 +30,12 @@ enum-told-2 c = search needs
 enum-told-3 : tie.Need-enum-told-3
 enum-told-3 c = search needs
 
+enum-told-4 : tie.Need-enum-told-4
+enum-told-4 c = search needs
+
+enum-told-5 : tie.Need-enum-told-5
+enum-told-5 c = search needs
+
 returns : tie.Need-returns
 returns c = search needs
 
@@ -32,6 +44,12 @@ returns-2 c = search needs
 
 returns-3 : tie.Need-returns-3
 returns-3 c = search needs
+
+returns-4 : tie.Need-returns-4
+returns-4 c = search needs
+
+returns-5 : tie.Need-returns-5
+returns-5 c = search needs
 
 pub column-at-spec : {M : Type 1} → statement M
 column-at-spec =
@@ -43,6 +61,12 @@ column-at-spec =
     bin-column-requires
     enum-told-3
     bin-column-requires-2
+    enum-told-4
+    wir-column-requires
+    enum-told-5
+    wrr-column-requires
     returns
     returns-2
-    returns-3)
+    returns-3
+    returns-4
+    returns-5)

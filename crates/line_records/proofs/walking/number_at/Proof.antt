@@ -7,7 +7,8 @@ use lib.ListN.{length, drop}
 use denote.Ref.{now}
 use borrow.Author.Needs.{needs}
 use Rattle.line_layouts.specs.Columns.{width}
-use Rattle.line_records.proofs.Places.{size-number, number-short, number-missing, number-value, number-large}
+use Rattle.line_records.proofs.Records.{size-number}
+use Rattle.line_records.proofs.Places.{number-short, number-missing, number-value, number-large}
 use Rattle.line_records.proofs.walking.number_at.Statement.{statement}
 use Rattle.line_records.proofs.walking.number_at.Tie as tie
 

@@ -9,7 +9,7 @@ use denote.Ref.{now}
 use borrow.Author.Needs.{needs}
 use Rattle.answers.specs.declared.Answer.the-variants.{BodyMisfit}
 use Rattle.line_layouts.specs.declared.Field.{Field}
-use Rattle.line_layouts.specs.Columns.{columns, bar, noColumn}
+use Rattle.line_layouts.specs.Columns.{columns, bar, mostColumns, noColumn}
 use Rattle.line_layouts.proofs.Laid.{most-columns}
 use Rattle.line_layouts.proofs.Fills.{Withins, within-none, within-set}
 use Rattle.line_layouts.proofs.Faults.{held-refused}
@@ -25,7 +25,7 @@ use Rattle.line_records.proofs.walking.walk.Tie as tie
 
 abbrev Inv-loop : tie.InvT-loop
 Inv-loop order tag s count k fields₀ at₀ gone₀ j₀ fields at gone j =
-    (j ≤ count) × (at ≤ length s) × (length fields ≡ 7) × Withins s fields
+    (j ≤ count) × (at ≤ length s) × (length fields ≡ mostColumns) × Withins s fields
     × Filled (bar tag) order (columns tag) s fields at gone j
     × Placing order (columns tag) s fields at gone j
 

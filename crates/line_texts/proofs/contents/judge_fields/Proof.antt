@@ -71,7 +71,7 @@ sites-fit-requires : tie.Need-sites-fit-requires
 sites-fit-requires c κs =
     let start = c .before .before .before .before .before .before in
     rw (c .fill .ensures)
-    (line-within (start .args .sep) (now (start .args .s)) (start .args .tag) (start .pre) .seven)
+    (line-within (start .args .sep) (now (start .args .s)) (start .args .tag) (start .pre) .full)
 
 returns-3 : tie.Need-returns-3
 returns-3 c =

@@ -1,6 +1,6 @@
 -- `line_texts::contents::sites_fit` meets its contract: the fields passed are as they must be beside each other.
 -- Assumes nothing.
-use mathlib.Core.Path.{_≡_, sym, _∙_}
+use mathlib.Core.Path.{sym, _∙_}
 use Prim.Native.Nat.{_-_, _≤_, _<_}
 use native.Mathlib.Omega.{arith}
 use lib.ListN.{length}

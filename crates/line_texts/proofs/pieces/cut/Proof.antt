@@ -8,7 +8,7 @@ use lib.Seq.{getD-take, getD-drop, drop-drop}
 use denote.Ref.{now}
 use borrow.Author.Needs.{needs}
 use Rattle.values.specs.declared.Name.{Name}
-use Rattle.line_layouts.specs.Columns.{columns}
+use Rattle.line_layouts.specs.Columns.{columns, mostColumns}
 use Rattle.line_layouts.proofs.Fills.{alike-at, stored-on}
 use Rattle.line_texts.specs.Places.{noPlace, placesOf, placesLeft}
 use Rattle.line_texts.proofs.Cuts.{left-few}
@@ -17,7 +17,7 @@ use Rattle.line_texts.proofs.pieces.cut.Tie as tie
 
 abbrev Inv-loop : tie.InvT-loop
 Inv-loop text sep count places₀ from₀ more₀ j₀ places from more j =
-    (j ≤ count) × (from ≤ length text) × (length places ≡ 7)
+    (j ≤ count) × (from ≤ length text) × (length places ≡ mostColumns)
     × ((i : ℕ) → getD places i noPlace ≡ getD (take j (placesOf sep text)) i noPlace)
     × (placesLeft sep more from text ≡ drop j (placesOf sep text))
 
@@ -25,7 +25,7 @@ abbrev μ-loop : tie.MeasureT-loop
 μ-loop text sep count places₀ from₀ more₀ j₀ places from more j = count - j
 
 loop-holds : tie.Need-loop-holds Inv-loop μ-loop
-loop-holds c = (omega arith, c .before .before .pre, refl, alike-at Name noPlace 7, refl)
+loop-holds c = (omega arith, c .before .before .pre, refl, alike-at Name noPlace mostColumns, refl)
 
 mul-places : tie.Need-mul-places Inv-loop μ-loop
 mul-places c = omega (arith, c .before .before .before .before .column-count .ensures .1)

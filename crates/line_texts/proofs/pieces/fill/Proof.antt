@@ -8,7 +8,7 @@ use denote.Ref.{now}
 use borrow.Author.Needs.{needs}
 use Rattle.line_layouts.specs.declared.Said.{Said}
 use Rattle.line_layouts.specs.declared.Field.{Field}
-use Rattle.line_layouts.specs.Columns.{columns, noColumn}
+use Rattle.line_layouts.specs.Columns.{columns, noColumn, mostColumns}
 use Rattle.line_layouts.specs.Entries.{named, noField}
 use Rattle.line_layouts.proofs.Fills.{alike-at, stored-on}
 use Rattle.line_texts.specs.Pieces.{split, gathered}
@@ -20,14 +20,14 @@ use Rattle.line_texts.proofs.pieces.fill.Tie as tie
 
 abbrev Inv-loop : tie.InvT-loop
 Inv-loop text sep tag cut count fields₀ j₀ filled j =
-    (j ≤ count) × (length filled ≡ 7)
+    (j ≤ count) × (length filled ≡ mostColumns)
     × ((i : ℕ) → getD filled i noField ≡ getD (take j (fields sep text tag)) i noField)
 
 abbrev μ-loop : tie.MeasureT-loop
 μ-loop text sep tag cut count fields₀ j₀ filled j = count - j
 
 loop-holds : tie.Need-loop-holds Inv-loop μ-loop
-loop-holds c = (omega arith, refl, alike-at Field noField 7)
+loop-holds c = (omega arith, refl, alike-at Field noField mostColumns)
 
 place-of-requires : tie.Need-place-of-requires Inv-loop μ-loop
 place-of-requires c κs = omega (arith, c .before .before .column-count .ensures .0)

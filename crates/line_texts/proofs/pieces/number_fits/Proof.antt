@@ -6,15 +6,15 @@ use Rattle.line_texts.proofs.pieces.number_fits.Statement.{statement}
 use Rattle.line_texts.proofs.pieces.number_fits.Tie as tie
 
 returns : tie.Need-returns
-returns c = rw (sym (c .before .before .before .read-number .ensures) ∙ c .before .n .given .1)
+returns c = rw (sym (c .before .before .before .numeral-in .ensures) ∙ c .before .n .given .1)
 
 returns-2 : tie.Need-returns-2
-returns-2 c = rw (sym (c .before .before .read-number .ensures) ∙ c .enum-told .given .1)
+returns-2 c = rw (sym (c .before .before .numeral-in .ensures) ∙ c .enum-told .given .1)
 
 -- ---- found by search
 
-read-number-requires : tie.Need-read-number-requires
-read-number-requires c κs = search needs
+numeral-in-requires : tie.Need-numeral-in-requires
+numeral-in-requires c κs = search needs
 
 enum-known-n : tie.Need-enum-known-n
 enum-known-n c = search needs
@@ -24,4 +24,4 @@ enum-told c = search needs
 
 pub number-fits-spec : {M : Type 1} → statement M
 number-fits-spec =
-    tie.close (tie.spec read-number-requires enum-known-n enum-told returns returns-2)
+    tie.close (tie.spec numeral-in-requires enum-known-n enum-told returns returns-2)

@@ -1,13 +1,14 @@
--- `line_texts::pieces::place_of` meets its contract: each column has a piece of the seven at most.
+-- `line_texts::pieces::place_of` meets its contract: each column has a piece, and there is room for as many.
 -- Assumes nothing.
 use Prim.Native.Nat.{_<_}
 use native.Mathlib.Omega.{arith}
 use borrow.Author.Needs.{needs}
+use Rattle.line_layouts.specs.Columns.{mostColumns}
 use Rattle.line_layouts.proofs.Laid.{most-columns, back-inside}
 use Rattle.line_texts.proofs.pieces.place_of.Statement.{statement}
 use Rattle.line_texts.proofs.pieces.place_of.Tie as tie
 
-small : (c : tie.After-back-at) → c .back-at .result < 7
+small : (c : tie.After-back-at) → c .back-at .result < mostColumns
 small c =
     let s = c .before in
     omega (

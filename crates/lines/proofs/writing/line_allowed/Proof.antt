@@ -41,14 +41,14 @@ returns c =
     let s = l .before .before .before in
     let a = s .args in
     let j = l .loop .j in
-    let seven = s .pre .seven in
+    let full = s .pre .full in
     let count = l .before .column-count .ensures .0 in
     let es = entriesOf (now (a .source)) (a .line) in
     let told = c .before .said-allowed in
     let inside : j < length (columns (a .line .tag)) = omega arith in
     sym (l .loop .inv .1 ∙ each-fails Entry (entryAllowed (a .sep)) es j Missing
-    (omega (arith, length-entries (now (a .source)) (a .line) seven))
-    (rw (said-at (now (a .source)) (a .line) seven j inside, ← c .before .before .said-at .ensures)
+    (omega (arith, length-entries (now (a .source)) (a .line) full))
+    (rw (said-at (now (a .source)) (a .line) full j inside, ← c .before .before .said-at .ensures)
     (sym (told .ensures) ∙ not-true (told .result) (c .if1 .taken))))
 
 loop-again : tie.Need-loop-again Inv-loop μ-loop
@@ -57,15 +57,15 @@ loop-again c =
     let s = l .before .before .before in
     let a = s .args in
     let j = l .loop .j in
-    let seven = s .pre .seven in
+    let full = s .pre .full in
     let count = l .before .column-count .ensures .0 in
     let es = entriesOf (now (a .source)) (a .line) in
     let told = c .before .said-allowed in
     let inside : j < length (columns (a .line .tag)) = omega arith in (
       omega arith,
       l .loop .inv .1 ∙ each-on Entry (entryAllowed (a .sep)) es j Missing
-          (omega (arith, length-entries (now (a .source)) (a .line) seven))
-          (rw (said-at (now (a .source)) (a .line) seven j inside, ← c .before .before .said-at .ensures)
+          (omega (arith, length-entries (now (a .source)) (a .line) full))
+          (rw (said-at (now (a .source)) (a .line) full j inside, ← c .before .before .said-at .ensures)
           (sym (told .ensures) ∙ not-false (told .result) (c .if1 .left))),
     )
 
@@ -77,7 +77,7 @@ returns-2 c =
     let count = l .before .column-count .ensures .0 in
     sym (l .loop .inv .1 ∙ each-ends Entry (entryAllowed (a .sep)) (entriesOf (now (a .source)) (a .line))
     (l .loop .j) Missing
-    (omega (arith, length-entries (now (a .source)) (a .line) (s .pre .seven))))
+    (omega (arith, length-entries (now (a .source)) (a .line) (s .pre .full))))
 
 -- ---- found by search
 

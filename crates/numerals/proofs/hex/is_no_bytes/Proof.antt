@@ -7,13 +7,13 @@ use Rattle.numerals.proofs.hex.is_no_bytes.Tie as tie
 
 returns : tie.Need-returns
 unfolding isNoBytes
-returns c = c .is-name .ensures
+returns c = c .same-bytes .ensures
 
-slice-aggregate-is-name : tie.Need-slice-aggregate-is-name
-slice-aggregate-is-name c = refl
+slice-aggregate-same-bytes : tie.Need-slice-aggregate-same-bytes
+slice-aggregate-same-bytes c = refl
 
-is-name-requires : tie.Need-is-name-requires
-is-name-requires c κs = tt
+same-bytes-requires : tie.Need-same-bytes-requires
+same-bytes-requires c κs = tt
 
 pub is-no-bytes-spec : {M : Type 1} → statement M
-is-no-bytes-spec = tie.close (tie.spec slice-aggregate-is-name is-name-requires returns)
+is-no-bytes-spec = tie.close (tie.spec slice-aggregate-same-bytes same-bytes-requires returns)

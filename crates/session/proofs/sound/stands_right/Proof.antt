@@ -1,8 +1,6 @@
 -- `session::sound::stands_right` meets its contract: each arm is one case of `standsRight`.
 -- Assumes nothing.
-use mathlib.Core.Path.{sym}
 use borrow.Author.Needs.{needs}
-use Rattle.session.proofs.Laws.{ended-by-pcr, ended-open}
 use Rattle.session.proofs.sound.stands_right.Statement.{statement}
 use Rattle.session.proofs.sound.stands_right.Tie as tie
 
@@ -19,14 +17,7 @@ returns-4 : tie.Need-returns-4
 returns-4 c = rw (c .before .enum-told4 .given .1) (c .nothing-yet4 .ensures)
 
 returns-6 : tie.Need-returns-6
-returns-6 c =
-    let told = c .before .before in
-    rw (told .enum-told6 .given .1) (sym (ended-by-pcr (told .before .before .args .st) (c .if1 .taken)))
-
-returns-7 : tie.Need-returns-7
-returns-7 c =
-    let told = c .before .before in
-    rw (told .enum-told6 .given .1) (sym (ended-open (told .before .before .args .st) (c .if1 .left)))
+returns-6 c = rw (c .before .enum-told6 .given .1) (c .may-end .ensures)
 
 -- ---- found by search
 
@@ -60,6 +51,9 @@ enum-told-5 c = search needs
 enum-told-6 : tie.Need-enum-told-6
 enum-told-6 c = search needs
 
+may-end-requires : tie.Need-may-end-requires
+may-end-requires c κs = search needs
+
 returns-5 : tie.Need-returns-5
 returns-5 c = search needs
 
@@ -77,10 +71,10 @@ stands-right-spec =
     nothing-yet-requires-4
     enum-told-5
     enum-told-6
+    may-end-requires
     returns
     returns-2
     returns-3
     returns-4
     returns-5
-    returns-6
-    returns-7)
+    returns-6)

@@ -1,23 +1,23 @@
--- `script::words::is_name` meets its contract: what is left of both is the same exactly if all is.
+-- `matching::same_bytes` meets its contract: what is left of both is the same exactly if all is.
 -- Assumes nothing.
 use mathlib.Core.Path.{_≡_, refl, sym, _∙_}
 use Prim.Native.Nat.{_-_, _≤_}
 use native.Mathlib.Omega.{arith}
 use lib.ListN.{length, drop}
 use denote.Ref.{now}
-use Rattle.script.specs.Words.{same}
-use Rattle.script.proofs.WordLaws.{same-long, same-ends, same-fails, same-on}
-use Rattle.script.proofs.words.is_name.Statement.{statement}
-use Rattle.script.proofs.words.is_name.Tie as tie
+use Rattle.matching.specs.Matching.{same}
+use Rattle.matching.proofs.Laws.{same-long, same-ends, same-fails, same-on}
+use Rattle.matching.proofs.same_bytes.Statement.{statement}
+use Rattle.matching.proofs.same_bytes.Tie as tie
 
 abbrev Inv-loop : tie.InvT-loop
-Inv-loop word name i₀ i = (i ≤ length word) × (same word name ≡ same (drop i word) (drop i name))
+Inv-loop one other i₀ i = (i ≤ length one) × (same one other ≡ same (drop i one) (drop i other))
 
 abbrev μ-loop : tie.MeasureT-loop
-μ-loop word name i₀ i = length word - i
+μ-loop one other i₀ i = length one - i
 
 returns : tie.Need-returns Inv-loop μ-loop
-returns c = sym (same-long (now (c .before .args .word)) (now (c .before .args .name)) (c .if1 .taken))
+returns c = sym (same-long (now (c .before .args .one)) (now (c .before .args .other)) (c .if1 .taken))
 
 loop-holds : tie.Need-loop-holds Inv-loop μ-loop
 loop-holds c = (omega arith, refl)
@@ -49,8 +49,8 @@ add-i c = omega arith
 loop-less : tie.Need-loop-less Inv-loop μ-loop
 loop-less c = omega arith
 
-pub is-name-spec : {M : Type 1} → statement M
-is-name-spec =
+pub same-bytes-spec : {M : Type 1} → statement M
+same-bytes-spec =
     tie.close
     (tie.spec
     Inv-loop

@@ -1,0 +1,4 @@
+pub mod Dates
+pub mod Reading
+pub mod Laws
+pub mod Samples
