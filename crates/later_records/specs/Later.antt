@@ -28,7 +28,7 @@ at st place =
       wafers = st .wafers;
     }
 
--- Later records: 3, 6, 8, 7, then what its kind asks by itself, last 14
+-- Later records: 3, 6, 8, 7, then what its kind asks by itself
 unfoldable pub judgeLater : Standing → List ℕ → List ℕ → Verdict
 judgeLater st cells rec =
     let kind = kindOf (recTyp rec) (recSub rec) in
