@@ -17,14 +17,14 @@ use Rattle.prelude.proofs.Each.{each-append}
 use Rattle.matching.specs.Matching.{same}
 use Rattle.matching.proofs.Laws.{same-self, same-only}
 use Rattle.output.specs.Placed.{Put}
-use Rattle.digits.specs.Digits.{digit, digits, isDigit}
-use Rattle.digits.proofs.Laws.{digits-one, digits-more, is-digit}
+use Rattle.digits.specs.Digits.{digit, digits, two, isDigit}
+use Rattle.digits.proofs.Laws.{digits-one, digits-two, is-digit}
 use Rattle.months.specs.Months.{lengthOf, monthOf, lastMonth}
 use Rattle.months.proofs.Laws.{first-next, length-between, month-holds, month-last}
 use Rattle.dates.specs.declared.Moment.{Moment}
 use Rattle.dates.specs.declared.Dated.{Dated}
 use Rattle.dates.specs.declared.Dated.the-variants.{Time, NotADate}
-use Rattle.dates.specs.Dates.{lastTime, momentOf, Fits, monthIn, timeOf, two, monthNames, letter}
+use Rattle.dates.specs.Dates.{lastTime, momentOf, Fits, monthIn, timeOf, monthNames, letter}
 use Rattle.dates.specs.Dates.{pastHour, pastDay, textOf, dateText, dateByte}
 use Rattle.dates.specs.Reading.{isNamed, namedIn, monthNamed, fieldsIn, readAs, dateOf}
 use Rattle.dates.specs.Laws.{MomentFits, TimeMoment, DateRead, DateOnly, DateNone, DateOnce, DateSize, DateBytes}
@@ -82,9 +82,6 @@ month-named : (m : ℕ) → m < 12 → monthNamed (letter m 0) (letter m 1) (let
 month-named m h = eqb-true (monthNamed (letter m 0) (letter m 1) (letter m 2)) m (carried named 12 all-named m h)
 
 -- ---- a number below a hundred
-
-digits-two : (n : ℕ) → 10 ≤ n → n < 100 → digits n ≡ two n
-digits-two n h g = rw (digits-more n h, digits-one (n / 10) (omega arith))
 
 module _ (P : List ℕ → Type 0) (n : ℕ) (h : n < 100) (one : n < 10 → P (digit n ∷ [])) (more : 10 ≤ n → P (two n)) where
   pub below-hundred : P (digits n)

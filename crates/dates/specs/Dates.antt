@@ -11,7 +11,7 @@ use Prim.Native.Nat.{ℕ, _+_, _-_, _*_, _/_, _%_, _≤_, _<_}
 use Prim.Native.Char.{code}
 use lib.Dec.{eqb, leb}
 use lib.ListN.{getD}
-use Rattle.digits.specs.Digits.{digit, digits, isDigit}
+use Rattle.digits.specs.Digits.{digits, two, isDigit}
 use Rattle.months.specs.Months.{firstDay, monthOf}
 use Rattle.dates.specs.declared.Moment.{Moment}
 
@@ -52,10 +52,6 @@ abbrev pub timeOf : Moment → ℕ
 timeOf m = (firstDay (monthIn m) + (m .day - 1)) * 86_400 + m .hour * 3_600 + m .minute * 60 + m .second
 
 -- ---- text
-
--- two digits of a number below a hundred
-abbrev pub two : ℕ → List ℕ
-two n = digit (n / 10) ∷ digit (n % 10) ∷ []
 
 -- #103: months are three capitals
 abbrev pub monthNames : List (List ℕ)

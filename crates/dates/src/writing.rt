@@ -3,22 +3,16 @@ use crate::Moment;
 use crate::moment_of;
 use crate::names::letter_of;
 use digits::put_digits;
+use digits::two_of;
 use digits::width;
 use output::put_part;
 ghost use mathlib.Core.Path.{_≡_};
 ghost use mathlib.Core.List.{_++_};
-ghost use Prim.Native.Nat.{_≤_, _<_};
+ghost use Prim.Native.Nat.{_≤_};
 ghost use lib.ListN.{length};
 ghost use Rattle.output.specs.Placed.{Put, Room};
 ghost use Rattle.digits.specs.Digits.{digits};
-ghost use Rattle.dates.specs.Dates.{Fits, two, pastHour, pastDay, dateText};
-
-fn two_of(n: u32) -> [u8; 2]
-    requires { ⌜ n < 100 ⌝ }
-    ensures { λ r. ⌜ r ≡ two n ⌝ }
-{
-    [(n / 10) as u8 + b'0', (n % 10) as u8 + b'0']
-}
+ghost use Rattle.dates.specs.Dates.{Fits, pastHour, pastDay, dateText};
 
 // What stands behind the hour, `:23:02 `.
 fn past_hour(m: Moment) -> [u8; 7]
@@ -48,7 +42,7 @@ fn put_number(out: &mut [u8], n: u32, bytes: &[u8]) -> usize
     requires { ⌜ Room (digits n ++ now bytes) (now out) ⌝ }
     ensures { λ r. ⌜ Put (digits n ++ now (bytes .entry)) (now (out .entry)) r (now (out .exit)) ⌝ }
 {
-    let k = put_digits(out, n);
+    let k = put_digits(out, n as u64);
     k + put_part(&mut out[k..], bytes, 0, bytes.len())
 }
 

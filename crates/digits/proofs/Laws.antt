@@ -4,7 +4,7 @@
 use mathlib.Core.Path.{_≡_, refl, ap}
 use mathlib.Core.Logic.{_⊎_, ⊎-elim, inl, inr}
 use mathlib.Core.Bool.{Bool, true, false}
-use mathlib.Core.List.{List, [], _∷_, _++_}
+use mathlib.Core.List.{List, [], _∷_, _++_, append-assoc}
 use Prim.Native.Nat.{ℕ, zero, suc, _+_, _-_, _*_, _/_, _%_, _≤_, _<_}
 use Prim.Native.Char.{code}
 use native.Mathlib.Numerals.{add-one}
@@ -17,8 +17,9 @@ use Rattle.prelude.specs.Each.{each}
 use Rattle.prelude.proofs.Both.{both-left, both-right}
 use Rattle.prelude.proofs.Each.{each-append}
 use Rattle.digits.specs.declared.Numeral.the-variants.{Value, NotANumber}
-use Rattle.digits.specs.Digits.{digit, digitsWithin, digits, isDigit, decimalFrom, decimal, numeral}
-use Rattle.digits.specs.Laws.{DigitsMost, DigitsSome, NoLeadingZero, DigitsDigits, DecimalDigits, NumeralDigits}
+use Rattle.digits.specs.Digits.{digit, digitsWithin, digits, two, isDigit, decimalFrom, decimal, numeral}
+use Rattle.digits.specs.Laws.{TwoSteps, DigitsMost, DigitsLong, DigitsSome, NoLeadingZero, DigitsDigits}
+use Rattle.digits.specs.Laws.{DecimalDigits, NumeralDigits}
 
 -- ---- digits, by the quotient
 
@@ -51,6 +52,21 @@ digits-more (suc n) h =
     (ap (λ (l : List ℕ). l ++ digit (suc n % 10) ∷ []) (within-same n (suc n / 10) (suc n / 10) (omega arith)
     (omega arith)))
 
+-- ---- .. and by a hundred: two digits a step
+
+pub digits-two : (n : ℕ) → 10 ≤ n → n < 100 → digits n ≡ two n
+digits-two n h g = rw (digits-more n h, digits-one (n / 10) (omega arith))
+
+pub two-steps : TwoSteps
+two-steps n h =
+    let hundreds : n / 10 / 10 ≡ n / 100 = omega arith in
+    let tens : n / 10 % 10 ≡ n % 100 / 10 = omega arith in
+    let ones : n % 10 ≡ n % 100 % 10 = omega arith in
+    rw (digits-more n (omega arith), digits-more (n / 10) (omega arith), hundreds, tens, ones)
+    (append-assoc (digits (n / 100)) (digit (n % 100 / 10) ∷ []) (digit (n % 100 % 10) ∷ []))
+
+-- ---- how many digits
+
 pub length-one : (n : ℕ) → n < 10 → length (digits n) ≡ 1
 length-one n h = rw (digits-one n h)
 
@@ -73,6 +89,10 @@ abbrev tens : ℕ → ℕ
 tens zero = 1
 tens (suc k) = 10 * tens k
 
+tens-some : (k : ℕ) → 1 ≤ tens k
+tens-some zero = omega arith
+tens-some (suc k) = omega (arith, tens-some k)
+
 length-within : (k n : ℕ) → n < tens (suc k) → length (digits n) ≤ suc k
 length-within zero n h = omega (arith, length-one n (omega arith))
 length-within (suc k) n h =
@@ -80,12 +100,27 @@ length-within (suc k) n h =
     (λ (s : 10 ≤ n). omega (arith, length-more n s, length-within k (n / 10) (omega arith)))
     (small-or-not n)
 
-pub digits-most : DigitsMost
-digits-most n h = length-within 9 n (omega arith)
-
 pub digits-some : DigitsSome
 digits-some = by-quotient (λ (n : ℕ). 1 ≤ length (digits n)) (λ n s. omega (arith, length-one n s))
     (λ n s ih. omega (arith, length-more n s))
+
+-- a number below a power of ten has no more digits than that power has noughts
+pub digits-below : (k n : ℕ) → 1 ≤ k → n < tens k → length (digits n) ≤ k
+digits-below zero n some h = absurd (omega arith)
+digits-below (suc k) n some h = length-within k n h
+
+-- .. and one that reaches it has more
+pub digits-reach : (k n : ℕ) → tens k ≤ n → suc k ≤ length (digits n)
+digits-reach zero n h = digits-some n
+digits-reach (suc k) n h =
+    let ten : 1 ≤ tens k = tens-some k in
+    omega (arith, length-more n (omega (arith, ten)), digits-reach k (n / 10) (omega (arith, ten)))
+
+pub digits-most : DigitsMost
+digits-most n h = length-within 9 n (omega arith)
+
+pub digits-long : DigitsLong
+digits-long n h = length-within 19 n (omega arith)
 
 pub no-leading-zero : NoLeadingZero
 no-leading-zero =
@@ -179,6 +214,9 @@ module _ (s : List ℕ) (i n : ℕ) where
 -- what i digits are worth is below ten, i times: ten of them do not fill eight bytes
 abbrev pub ceiling : ℕ → ℕ
 ceiling i = tens i
+
+pub ceiling-next : (i : ℕ) → ceiling (i + 1) ≡ ceiling i * 10
+ceiling-next i = rw (add-one i) (omega arith)
 
 pub ceiling-more : (i n d : ℕ) → n < ceiling i → d ≤ 9 → n * 10 + d < ceiling (i + 1)
 ceiling-more i n d h g = rw (add-one i) (omega arith)

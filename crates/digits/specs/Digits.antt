@@ -2,6 +2,7 @@
 -- digits.
 --
 --   digits     the text of a number, by recursion on the quotient
+--   two        the two digits of a number below a hundred
 --   isDigit    which bytes are digits
 --   decimal    what digits are worth
 --   numeral    what text says as a number
@@ -32,6 +33,10 @@ digitsWithin (suc depth) false n = digitsWithin depth (ltb (n / 10) 10) (n / 10)
 -- a number is deep enough for itself
 unfoldable pub digits : ℕ → List ℕ
 digits n = digitsWithin (suc n) (ltb n 10) n
+
+-- #103, minute and second have two digits; #104, two a step
+abbrev pub two : ℕ → List ℕ
+two n = digit (n / 10) ∷ digit (n % 10) ∷ []
 
 unfoldable pub isDigit : ℕ → Bool
 isDigit b = leb (code "0") b && leb b (code "9")

@@ -2,16 +2,25 @@
 -- Assumes nothing.
 use mathlib.Core.Path.{_≡_}
 use mathlib.Core.Bool.{true}
-use Prim.Native.Nat.{ℕ, _≤_, _<_, _^_}
+use mathlib.Core.List.{_++_}
+use Prim.Native.Nat.{ℕ, _/_, _%_, _≤_, _<_, _^_}
 use Prim.Native.Char.{code}
 use lib.ListN.{length, getD}
 use Rattle.prelude.specs.Each.{each}
 use Rattle.digits.specs.declared.Numeral.the-variants.{Value}
-use Rattle.digits.specs.Digits.{digits, isDigit, decimal, numeral}
+use Rattle.digits.specs.Digits.{digits, two, isDigit, decimal, numeral}
+
+-- #104, two a step: two steps of the definition are one of the code's, for every number
+abbrev pub TwoSteps : Type 0
+TwoSteps = (n : ℕ) → 100 ≤ n → digits n ≡ digits (n / 100) ++ two (n % 100)
 
 -- a number of four bytes has at most ten digits
 abbrev pub DigitsMost : Type 0
 DigitsMost = (n : ℕ) → n < 2 ^ 32 → length (digits n) ≤ 10
+
+-- one of eight bytes at most twenty
+abbrev pub DigitsLong : Type 0
+DigitsLong = (n : ℕ) → n < 2 ^ 64 → length (digits n) ≤ 20
 
 -- and every number has one
 abbrev pub DigitsSome : Type 0

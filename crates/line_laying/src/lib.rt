@@ -21,6 +21,7 @@ use line_layouts::judging::is_missing;
 use line_layouts::judging::said_at;
 use numbers::Order;
 use output::Written;
+use output::put_pair;
 use values::Name;
 ghost use mathlib.Core.Path.{_≡_};
 ghost use Prim.Native.Nat.{_+_, _-_, _*_, _≤_, _<_};
@@ -42,7 +43,7 @@ fn put_spelt(out: &mut [u8], form: Form, n: u32) -> usize
     if is_time(form) {
         dates::write_date(out, n)
     } else {
-        digits::put_digits(out, n)
+        digits::put_digits(out, n as u64)
     }
 }
 
@@ -295,7 +296,8 @@ fn put_four(out: &mut [u8], a: u8, b: u8, c: u8, d: u8) -> usize
     4
 }
 
-fn put_tag(out: &mut [u8], tag: Tag) -> usize
+// What a line begins with.
+pub fn put_tag(out: &mut [u8], tag: Tag) -> usize
     requires { ⌜ Room (tagText tag) (now out) ⌝ }
     ensures { λ r. ⌜ Put (tagText tag) (now (out .entry)) r (now (out .exit)) ⌝ }
 {
@@ -306,15 +308,6 @@ fn put_tag(out: &mut [u8], tag: Tag) -> usize
         Tag::Wir => put_four(out, b'W', b'I', b'R', b':'),
         Tag::Wrr => put_four(out, b'W', b'R', b'R', b':'),
     }
-}
-
-fn put_pair(out: &mut [u8], a: u8, b: u8) -> usize
-    requires { ⌜ Room (a ∷ b ∷ []) (now out) ⌝ }
-    ensures { λ r. ⌜ Put (a ∷ b ∷ []) (now (out .entry)) r (now (out .exit)) ⌝ }
-{
-    out[0] = a;
-    out[1] = b;
-    2
 }
 
 // A record's header, before a body of that size.

@@ -89,6 +89,18 @@ module _ (at len : ℕ) (source : List ℕ) (h : at + len ≤ length source) whe
 
 -- ---- at an offset
 
+-- bytes put at the start of the part behind an offset are laid at the offset
+pub put-behind : (bytes old : List ℕ) (at n : ℕ) (new : List ℕ) → at ≤ length old
+    → Put bytes (take (length old - at) (drop at old)) n new
+    → take at old ++ (new ++ drop (length old - at) (drop at old))
+    ≡ take at old ++ (bytes ++ drop (at + length bytes) old)
+put-behind bytes old at n new h e =
+    let all : take (length old - at) (drop at old) ≡ drop at old =
+    take-all (length old - at) (drop at old) (omega (arith, length-drop at old)) in
+    let none : drop (length old - at) (drop at old) ≡ [] =
+    drop-of-length-le (drop at old) {i = length old - at} (omega (arith, length-drop at old)) in
+    rw (e .laid, all, none, append-nil, drop-drop (length bytes) at old)
+
 module _ (bytes old : List ℕ) (at : ℕ) where
   pub place-short : length old < at + length bytes → refused OutputTooShort old ≡ placedAt bytes old at
   unfolding placedAt
@@ -102,18 +114,10 @@ module _ (bytes old : List ℕ) (at : ℕ) where
         → outcome (Bytes n) (take at old ++ (new ++ drop (length old - at) (drop at old))) ≡ placedAt bytes old at
     unfolding placedAt
     place-done n new e =
-        let all : take (length old - at) (drop at old) ≡ drop at old =
-        take-all (length old - at) (drop at old) (omega (arith, length-drop at old)) in
-        let none : drop (length old - at) (drop at old) ≡ [] =
-        drop-of-length-le (drop at old) {i = length old - at} (omega (arith, length-drop at old)) in
         rw (
           le-leb (at + length bytes) (length old) h,
-          e .laid,
+          put-behind bytes old at n new (omega arith) e,
           e .count,
-          all,
-          none,
-          append-nil,
-          drop-drop (length bytes) at old,
         )
 
 -- ---- bytes that were placed stand at their offset

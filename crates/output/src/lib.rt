@@ -22,6 +22,16 @@ pub fn put_byte(out: &mut [u8], b: u8) -> usize
     1
 }
 
+// Two bytes.
+pub fn put_pair(out: &mut [u8], a: u8, b: u8) -> usize
+    requires { ⌜ Room (a ∷ b ∷ []) (now out) ⌝ }
+    ensures { λ r. ⌜ Put (a ∷ b ∷ []) (now (out .entry)) r (now (out .exit)) ⌝ }
+{
+    out[0] = a;
+    out[1] = b;
+    2
+}
+
 // `len` bytes of a source, from its place `at` on.
 pub fn put_part(out: &mut [u8], source: &[u8], at: usize, len: usize) -> usize
     requires { ⌜ (at + len ≤ length (now source)) × (len ≤ length (now out)) ⌝ }

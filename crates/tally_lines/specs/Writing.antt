@@ -1,29 +1,30 @@
 -- How the lines that end a stream are written.
 --
---   fieldOf, rowFields, lineOf   a row's HBR line as `line_layouts` holds it
+--   cell, twoCells, cells   a row's numbers, each with the byte behind it; hbrLine, with its tag before them
 --   mostLine          bytes that no such line passes, and mostRefused, that no refusal's line does
+--   PutLine           what a writer of such a line returns and leaves
 --   LaidAt            what a writer that lays bytes at an offset returns and leaves
---   RowLow            a row's numbers, of four bytes at most
 -- Assumes nothing.
 use mathlib.Core.Path.{_≡_}
 use mathlib.Core.List.{List, [], _∷_, _++_}
-use Prim.Native.Nat.{ℕ, _+_, _≤_, _<_}
+use Prim.Native.Nat.{ℕ, _+_, _≤_}
 use lib.ListN.{length, take, drop}
-use Rattle.house.specs.declared.Row.{Row}
+use Rattle.output.specs.Placed.{Put}
+use Rattle.digits.specs.Digits.{digits}
 use Rattle.line_layouts.specs.declared.Tag.the-variants.{Hbr}
-use Rattle.line_layouts.specs.declared.Said.the-variants as said
-use Rattle.line_layouts.specs.declared.Field.{Field}
-use Rattle.line_layouts.specs.declared.Line.{Line}
-use Rattle.line_layouts.specs.Entries.{padded}
+use Rattle.line_layouts.specs.Columns.{separator, lineFeed, tagText}
 
-abbrev pub fieldOf : ℕ → Field
-fieldOf n = record { said = said.Number n }
+abbrev pub cell : ℕ → ℕ → List ℕ
+cell n mark = digits n ++ mark ∷ []
 
-abbrev pub rowFields : Row → List Field
-rowFields r = fieldOf (r .head) ∷ fieldOf (r .site) ∷ fieldOf (r .bin) ∷ fieldOf (r .count) ∷ []
+abbrev pub twoCells : ℕ → ℕ → ℕ → List ℕ
+twoCells a b mark = cell a separator ++ cell b mark
 
-abbrev pub lineOf : Row → Line
-lineOf r = record { tag = Hbr; fields = padded (rowFields r) }
+abbrev pub cells : ℕ → ℕ → ℕ → ℕ → List ℕ
+cells head site bin count = twoCells head site separator ++ twoCells bin count lineFeed
+
+abbrev pub hbrLine : ℕ → ℕ → ℕ → ℕ → List ℕ
+hbrLine head site bin count = tagText Hbr ++ cells head site bin count
 
 -- four bytes, and four numbers of at most ten digits, each with the byte behind it
 abbrev pub mostLine : ℕ
@@ -33,21 +34,11 @@ mostLine = 48
 abbrev pub mostRefused : ℕ
 mostRefused = 83
 
+pub record PutLine (bytes old : List ℕ) (r : ℕ) (new : List ℕ) : Type 0 where
+  pub put : Put bytes old r new
+  pub few : r ≤ mostLine
+
 pub record LaidAt (bytes old : List ℕ) (at r : ℕ) (new : List ℕ) : Type 0 where
   pub count : r ≡ length bytes
   pub few : r ≤ mostLine
   pub laid : new ≡ take at old ++ (bytes ++ drop (at + length bytes) old)
-
-pub record FieldOf (n : ℕ) (field : Field) : Type 0 where
-  pub is : field ≡ fieldOf n
-  pub low : n < 4_294_967_296
-
-pub record RowLow (r : Row) : Type 0 where
-  pub head : r .head < 4_294_967_296
-  pub site : r .site < 4_294_967_296
-  pub bin : r .bin < 4_294_967_296
-  pub count : r .count < 4_294_967_296
-
-pub record RowLined (r : Row) (line : Line) : Type 0 where
-  pub is : line ≡ lineOf r
-  pub low : RowLow r

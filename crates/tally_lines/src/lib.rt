@@ -2,38 +2,21 @@
 // it is lent; a row's line goes to an offset.
 use answers::Answer;
 use answers::Values;
+use digits::put_digits;
 use house::Row;
-use line_laying::place;
-use line_layouts::Field;
-use line_layouts::Layout;
-use line_layouts::Line;
-use line_layouts::Said;
+use line_laying::put_tag;
 use line_layouts::Tag;
+use line_layouts::columns::LINE_FEED;
 use line_layouts::columns::SEPARATOR;
-use output::Written;
 use output::put_byte;
 use output::put_part;
 ghost use Prim.Native.Nat.{_+_, _≤_};
 ghost use lib.ListN.{length};
 ghost use Rattle.answers.specs.Numbers.{OfBytes};
 ghost use Rattle.output.specs.Placed.{Put, Room};
-ghost use Rattle.digits.specs.Digits.{digits};
 ghost use Rattle.tally_lines.specs.Lines.{numbered, said, ending, atEnding, refusal, refusedLine, tooLongLine};
 ghost use Rattle.tally_lines.specs.Lines.{unfinishedLine, rowLine};
-ghost use Rattle.tally_lines.specs.Writing.{mostLine, mostRefused, FieldOf, RowLined, LaidAt};
-
-// A number of any width in decimal: the digits of the quotient, then the last one.
-fn put_number(out: &mut [u8], n: u64) -> usize
-    requires { ⌜ Room (digits n) (now out) ⌝ }
-    ensures { λ r. ⌜ Put (digits n) (now (out .entry)) r (now (out .exit)) ⌝ }
-{
-    if n < 4294967296 {
-        return digits::put_digits(out, n as u32);
-    }
-    let at = put_number(out, n / 10);
-    out[at] = (n % 10) as u8 + b'0';
-    at + 1
-}
+ghost use Rattle.tally_lines.specs.Writing.{cell, twoCells, cells, hbrLine, mostLine, mostRefused, PutLine, LaidAt};
 
 // Words, then a number.
 fn put_numbered(out: &mut [u8], words: &[u8], n: u64) -> usize
@@ -41,7 +24,7 @@ fn put_numbered(out: &mut [u8], words: &[u8], n: u64) -> usize
     ensures { λ r. ⌜ Put (numbered (now (words .entry)) n) (now (out .entry)) r (now (out .exit)) ⌝ }
 {
     let k = put_part(out, words, 0, words.len());
-    k + put_number(&mut out[k..], n)
+    k + put_digits(&mut out[k..], n)
 }
 
 // .. and the end of the line.
@@ -115,48 +98,53 @@ pub fn put_unfinished(out: &mut [u8], k: u64) -> usize
     put_said(out, b"unfinished after record ", k)
 }
 
-fn number_field(n: u32) -> Field
-    ensures { λ r. ⌜ FieldOf n r ⌝ }
+// A number of a row, and the byte behind it.
+fn put_cell(out: &mut [u8], n: u64, mark: u8) -> usize
+    requires { ⌜ Room (cell n mark) (now out) ⌝ }
+    ensures { λ r. ⌜ Put (cell n mark) (now (out .entry)) r (now (out .exit)) ⌝ }
 {
-    Field {
-        said: Said::Number(n),
-    }
+    let k = put_digits(out, n);
+    k + put_byte(&mut out[k..], mark)
 }
 
-fn row_line(row: Row) -> Line
-    ensures { λ r. ⌜ RowLined row r ⌝ }
+// Two of them, one behind the other.
+fn put_two_cells(out: &mut [u8], a: u64, b: u64, mark: u8) -> usize
+    requires { ⌜ Room (twoCells a b mark) (now out) ⌝ }
+    ensures { λ r. ⌜ Put (twoCells a b mark) (now (out .entry)) r (now (out .exit)) ⌝ }
 {
-    let missing = Field {
-        said: Said::Missing,
-    };
-    Line {
-        tag: Tag::Hbr,
-        fields: [
-            number_field(row.head as u32),
-            number_field(row.site as u32),
-            number_field(row.bin as u32),
-            number_field(row.count),
-            missing,
-            missing,
-            missing,
-            missing,
-            missing,
-            missing,
-            missing,
-            missing,
-            missing,
-            missing,
-        ],
-    }
+    let k = put_cell(out, a, SEPARATOR);
+    k + put_cell(&mut out[k..], b, mark)
 }
 
-// The HBR line of a row at an offset behind which there is room for it, so that it is never refused.
+// All four.
+fn put_cells(out: &mut [u8], head: u64, site: u64, bin: u64, count: u64) -> usize
+    requires { ⌜ Room (cells head site bin count) (now out) ⌝ }
+    ensures { λ r. ⌜ Put (cells head site bin count) (now (out .entry)) r (now (out .exit)) ⌝ }
+{
+    let k = put_two_cells(out, head, site, SEPARATOR);
+    k + put_two_cells(&mut out[k..], bin, count, LINE_FEED)
+}
+
+// A line of these numbers: of widths that keep it within its room.
+fn put_line(out: &mut [u8], head: u8, site: u8, bin: u16, count: u32) -> usize
+    requires { ⌜ mostLine ≤ length (now out) ⌝ }
+    ensures { λ r. ⌜ PutLine (hbrLine head site bin count) (now (out .entry)) r (now (out .exit)) ⌝ }
+{
+    let k = put_tag(out, Tag::Hbr);
+    k
+        + put_cells(
+            &mut out[k..],
+            head as u64,
+            site as u64,
+            bin as u64,
+            count as u64,
+        )
+}
+
+// The HBR line of a row at an offset behind which there is room for it.
 pub fn put_row(out: &mut [u8], at: usize, row: Row) -> usize
     requires { ⌜ at + mostLine ≤ length (now out) ⌝ }
     ensures { λ r. ⌜ LaidAt (rowLine row) (now (out .entry)) at r (now (out .exit)) ⌝ }
 {
-    match place(out, at, Layout::Text(SEPARATOR), b"", row_line(row)) {
-        Written::Bytes(n) => n,
-        Written::Refused(_) => 0,
-    }
+    put_line(&mut out[at..], row.head, row.site, row.bin, row.count)
 }

@@ -4,6 +4,7 @@ mod names;
 
 use answers::Answer;
 use answers::Values;
+use digits::put_digits;
 pub use names::say_cell;
 pub use names::say_kind;
 pub use names::say_kind_wide;
@@ -13,8 +14,11 @@ pub fn say(words: &[u8]) {
     io::write_all(1, words);
 }
 
+// A number of eight bytes has twenty digits at most.
 pub fn say_number(n: u64) {
-    io::print_decimal(1, n);
+    let mut text = [b' '; 20];
+    let k = put_digits(&mut text, n);
+    say(&text[0..k]);
 }
 
 // What an answer carries, each of its values behind a space.

@@ -16,8 +16,8 @@ put-part-requires c κs =
     let a = start .args in
     (omega arith, first (now (a .words)) (digits (a .n)) (now (a .out)) (start .pre))
 
-sub-put-number : tie.Need-sub-put-number
-sub-put-number c =
+sub-put-digits : tie.Need-sub-put-digits
+sub-put-digits c =
     let put = c .before .before in
     let start = put .before .before .before .before in
     let a = start .args in
@@ -25,14 +25,14 @@ sub-put-number c =
     (put .put-part .result)
     (put-as (take-length (now (a .words))) (put .put-part .ensures))
 
-part-put-number-start : tie.Need-part-put-number-start
-part-put-number-start c = sub-put-number c
+part-put-digits-start : tie.Need-part-put-digits-start
+part-put-digits-start c = sub-put-digits c
 
-part-put-number-end : tie.Need-part-put-number-end
-part-put-number-end c = search needs
+part-put-digits-end : tie.Need-part-put-digits-end
+part-put-digits-end c = search needs
 
-put-number-requires : tie.Need-put-number-requires
-put-number-requires c κs =
+put-digits-requires : tie.Need-put-digits-requires
+put-digits-requires c κs =
     let put = c .before .before .before in
     let start = put .before .before .before .before in
     let a = start .args in
@@ -48,8 +48,8 @@ returns c =
     let a = start .args in
     both (now (a .words)) (digits (a .n)) (now (a .out)) (start .pre) (put .put-part .last .0)
     (put .put-part .result)
-    (put-as (take-length (now (a .words))) (put .put-part .ensures)) (then .put-number .last .0) (then .put-number .result)
-    (then .put-number .ensures)
+    (put-as (take-length (now (a .words))) (put .put-part .ensures)) (then .put-digits .last .0) (then .put-digits .result)
+    (then .put-digits .ensures)
 
 add-result : tie.Need-add-result
 add-result c =
@@ -64,10 +64,10 @@ put-numbered-spec =
     tie.close
     (tie.spec
     put-part-requires
-    sub-put-number
-    part-put-number-start
-    part-put-number-end
-    put-number-requires
+    sub-put-digits
+    part-put-digits-start
+    part-put-digits-end
+    put-digits-requires
     add-result
     same-length
     returns)

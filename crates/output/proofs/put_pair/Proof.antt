@@ -1,12 +1,12 @@
--- `line_laying::put_pair` meets its contract: a run of stores from the start of a part.
+-- `output::put_pair` meets its contract: a run of stores from the start of a part.
 -- Assumes nothing.
 use mathlib.Core.Path.{refl}
 use mathlib.Core.List.{[], _∷_}
 use denote.Ref.{now}
 use borrow.Author.Needs.{needs}
 use Rattle.numbers.proofs.Laws.{stored}
-use Rattle.line_laying.proofs.put_pair.Statement.{statement}
-use Rattle.line_laying.proofs.put_pair.Tie as tie
+use Rattle.output.proofs.put_pair.Statement.{statement}
+use Rattle.output.proofs.put_pair.Tie as tie
 
 returns : tie.Need-returns
 returns c =
