@@ -10,7 +10,7 @@ use Rattle.prelude.specs.Each.{each}
 use Rattle.digits.specs.declared.Numeral.the-variants.{Value}
 use Rattle.digits.specs.Digits.{digits, two, isDigit, decimal, numeral}
 
--- #104, two a step: two steps of the definition are one of the code's, for every number
+-- #104, two a step: two steps of the definition are one of the code's, for every number that has hundreds
 abbrev pub TwoSteps : Type 0
 TwoSteps = (n : ℕ) → 100 ≤ n → digits n ≡ digits (n / 100) ++ two (n % 100)
 

@@ -14,6 +14,7 @@ use Rattle.digits.specs.Digits.{digits}
 use Rattle.line_layouts.specs.declared.Tag.the-variants.{Hbr}
 use Rattle.line_layouts.specs.Columns.{separator, lineFeed, tagText}
 
+-- document 01, "Tally program", an HBR line (head, site, bin, count): a number, and the separator or line feed behind it
 abbrev pub cell : ℕ → ℕ → List ℕ
 cell n mark = digits n ++ mark ∷ []
 
