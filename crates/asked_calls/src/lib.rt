@@ -1,5 +1,6 @@
 // The calls of the house as a value: document 01, "The house, its slots and its rows", Calls. What reads a call and
 // what plays it both stand on this, and neither on the other.
+#![tactic(auto)]
 
 // The five calls; a feed, with how long a carry is lent to it, and the end of feeding (#102). An enum holds no
 // reference, so the bytes of a record or a chunk, and the carry, are lent beside it.

@@ -1,5 +1,7 @@
 // What a verb of the desk asks for with the words behind it: a call on the house, a call on a record line, or no call.
 // One function for each number of words.
+#![tactic(auto)]
+
 mod houses;
 mod lines;
 

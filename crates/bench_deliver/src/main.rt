@@ -1,6 +1,8 @@
 // Delivers two records in turn to a house with 1,000 rows held, by value, a hundred thousand in all: what a call costs.
 // Without input both are a PTR, whose body is not read: nearly every record of a real lot. With any input they are the PIR
 // and the PRR of a part, which counts a row. It prints the last figures.
+#![tactic(auto)]
+
 ghost use Rattle.std.specs.Prelude.{◌≤◌, length};
 
 use fixtures::{rising_keys, standing};

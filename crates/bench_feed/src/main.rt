@@ -2,6 +2,8 @@
 // feeds cost. The first four bytes of the input, high byte first, say how many bytes a chunk has. It prints the last
 // answer, the bytes taken, what the end of feeding is answered, and free and promised rows; below that the rows, as the
 // tally program writes them.
+#![tactic(auto)]
+
 ghost use Rattle.std.specs.Prelude.{◌≡◌, ◌*◌, ◌≤◌, length};
 ghost use Rattle.tally_lines.specs.Writing.{most_line};
 

@@ -1,5 +1,7 @@
 // Delivers records over lent rows, one after another: what the lent core costs. PIR and PRR pairs under 1,024 keys in no
 // order go to one session, many times over.
+#![tactic(auto)]
+
 ghost use Rattle.std.specs.Prelude.{◌≡◌, ◌+◌, ◌≤◌, ◌<◌, length};
 ghost use Rattle.house.specs.Deliver.{core};
 ghost use Rattle.house.specs.Laws.{Lending};

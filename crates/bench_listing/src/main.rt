@@ -1,5 +1,7 @@
 // Lists 1,024 rows as HBR lines, ten thousand times over: what a listing costs. Bins rise, and counts have one to ten
 // digits. It prints the bytes of all listings, and below that the text of the last one.
+#![tactic(auto)]
+
 ghost use Rattle.std.specs.Prelude.{◌≡◌, ◌*◌, ◌≤◌, ◌<◌, length};
 ghost use Rattle.tally_lines.specs.Writing.{most_line};
 

@@ -1,5 +1,7 @@
 // What a body of any kind says: document 01, "Record frame and kinds", the bodies read; #103, WIR and WRR. FAR,
 // MIR, MRR, WIR and WRR are read here, the others where their structs stand.
+#![tactic(auto)]
+
 ghost use Rattle.std.specs.Prelude.{◌≡◌, ◌≤◌, length};
 ghost use Rattle.bodies.specs.Bodies.{reading, read_far, read_mir, read_mrr, read_pcr, read_bin, read_pir, read_prr};
 ghost use Rattle.bodies.specs.Bodies.{wafer_of, read_wir, read_wrr, read_body};

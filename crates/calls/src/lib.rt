@@ -1,6 +1,8 @@
 // The calls that open and close a slot, and the operator's reading: document 01, "The house, its slots and its rows",
 // Calls, each with its order of checks. A refusal gives the house back as it came: every call takes a house by value,
 // tests its soundness and answers, whatever is handed in.
+#![tactic(auto)]
+
 ghost use Rattle.std.specs.Prelude.{◌≡◌};
 ghost use Rattle.house.specs.Calls.{open_slot, close_slot, figures_of, answered};
 

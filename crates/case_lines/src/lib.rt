@@ -2,6 +2,8 @@
 // call answers stands behind it. A line without a label only sets something up. A verb is known by its first letter.
 // Bytes are words in lower case hexadecimal, one behind the other; `HEX*N` is such a word N times, and a word that is
 // neither is said as `?`. Lines that begin with `#`, and empty ones, are copied.
+#![tactic(auto)]
+
 mod saying;
 
 ghost use Rattle.std.specs.Prelude.{◌≡◌, false, ◌+◌, ◌≤◌, length};

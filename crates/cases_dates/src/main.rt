@@ -9,6 +9,8 @@
 //     alter TEXT   at each place, how many of the 256 bytes make the text a date
 //
 // Each date that is written is read back: what it is read as is said where it is not its time.
+#![tactic(auto)]
+
 mod months_listed;
 mod reading_back;
 mod trying;

@@ -1,5 +1,7 @@
 // Numbers in decimal, one a line: every one from 0 to 99,999, both sides of each power of ten, and the last two of eight
 // bytes. #104: no text changes. What it is held to was written by other means: by seq, and of nines and noughts in a row.
+#![tactic(auto)]
+
 use transcript::{say, say_number};
 
 fn say_line(n: u64) {

@@ -14,6 +14,8 @@
 //     deliver RECORD              what Deliver to slot 0 answers
 //     held SLOT COUNT             sets how many bytes of a slot's carry are held, four bytes (#102)
 //     pour                        what a feed of no byte to slot 0, over a carry of noughts, and the end of feeding answer
+#![tactic(auto)]
+
 mod calling;
 mod setting;
 

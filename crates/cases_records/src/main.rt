@@ -13,6 +13,8 @@
 //     session PLACE CPU OPENED PCR RESULTS PARTS WAFERS NUMBER    one put together by hand (fixtures, session_of)
 //     deliver RECORD            its number, the row that it asks for, the place after it, open parts, accepted PRRs,
 //                               open wafers if there are any
+#![tactic(auto)]
+
 mod bodies_read;
 mod kinds_named;
 mod lengths;

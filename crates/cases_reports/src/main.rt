@@ -1,6 +1,8 @@
 // Reports into a lent slice, as a transcript: document 01, Calls, Report, "fills a lent slice of row records". The
 // slice has two rows, each 9/9/9=9 before the call. A line has the case, the answer, how many rows were written, and
 // both rows of the slice afterwards: head, site, bin and count. Held to the file stdout.
+#![tactic(auto)]
+
 ghost use Rattle.std.specs.Prelude.{◌≡◌};
 ghost use Rattle.house.specs.Report.{row_at, reported, filled};
 

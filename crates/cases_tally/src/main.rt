@@ -5,6 +5,8 @@
 //     new             a stream of which nothing has come
 //     put CUT BYTES   bytes of the stream, CUT of them a chunk: two bytes, 1 to 1,000
 //     end             the text that the tally program would write
+#![tactic(auto)]
+
 mod feed;
 
 ghost use Rattle.std.specs.Prelude.{◌≤◌};

@@ -1,4 +1,6 @@
 // What the records of counts say: document 01, "Record frame and kinds", PCR, HBR and SBR.
+#![tactic(auto)]
+
 ghost use Rattle.std.specs.Prelude.{◌≡◌, ◌≤◌, length};
 ghost use Rattle.fields.specs.Tables.{fits_body, pcr};
 ghost use Rattle.count_bodies.specs.Counts.{pcr_of, bin_count_of, bin_values_fit, bin_body_fits};

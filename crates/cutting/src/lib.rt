@@ -1,6 +1,8 @@
 // How a stream is cut into records: document 01, "Tally program", the first record, and "Record frame and kinds",
 // REC_LEN. specs/Walk.antt has the walk over any bytes and any state, byte after byte; where the records are heard is
 // no business of this crate.
+#![tactic(auto)]
+
 ghost use Rattle.std.specs.Prelude.{◌≡◌, ◌-◌, ◌≤◌, length, take, drop};
 ghost use Rattle.cutting.specs.Needed.{needed};
 

@@ -1,6 +1,8 @@
 // Dates in text, both ways: #103, `8:23:02 23-JUL-1992` is 711,879,782. The calendar is crate months'. A text is read
 // by taking the bytes where a date has its fields, and comparing it with what their time is written as: so exactly
 // the dates that are written are read, and no rule is said twice.
+#![tactic(auto)]
+
 mod names;
 mod reading;
 mod writing;

@@ -1,6 +1,8 @@
 // The call that delivers a record: document 01, "The house, its slots and its rows", Calls, Deliver, with its order of
 // checks. A refusal gives the house back as it came: it takes a house by value, tests its soundness and answers, whatever
 // is handed in.
+#![tactic(auto)]
+
 ghost use Rattle.std.specs.Prelude.{◌≡◌, true};
 ghost use Rattle.session.specs.Session.{sound};
 ghost use Rattle.settling.specs.Settling.{Settles};

@@ -24,6 +24,8 @@
 // many. A line that begins with `#` is copied, an empty one stays empty, and any other line that is no call answers `?`,
 // `write` and `read` with a LENGTH above 4,096 among them. What a line asks for is the crate requests' to say; here it is
 // played, and what came back is written.
+#![tactic(auto)]
+
 mod answering;
 mod carries;
 mod help;

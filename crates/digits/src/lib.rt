@@ -1,5 +1,7 @@
 // Decimal text of a number, both ways: document 01, "Count lines", Written, decimal without leading zeros, and Read,
 // one to ten digits. #104: written two digits a step, by recursion on the quotient, which falls by a hundred.
+#![tactic(auto)]
+
 ghost use Rattle.std.specs.Prelude.{◌≡◌, ◌≤◌, ◌<◌, length};
 ghost use Rattle.output.specs.Placed.{Put, Room};
 ghost use Rattle.digits.specs.Digits.{digits, two, is_digit, numeral};

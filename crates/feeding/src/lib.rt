@@ -1,6 +1,8 @@
 // Streams fed as the network delivers them: document 02, #102, with document 01's order of checks. A feed takes a house by
 // value, whatever it is, tests it once, and lends its rows to the records of a whole chunk (crate pouring).
 // crates/house/specs/Feeding.antt says what a feed comes to.
+#![tactic(auto)]
+
 ghost use Rattle.std.specs.Prelude.{◌≡◌, length};
 ghost use Rattle.house.specs.Feeding.{held_in, fed_with, fed_to, feed, end_feed};
 ghost use Rattle.feeding.specs.Door.{Cells, Feedable, Unfed};

@@ -1,5 +1,7 @@
 // How a body is made of fields: document 01, "Record frame and kinds", bodies read. One table for each body, in the
 // order of its bytes, and one walk for all of them.
+#![tactic(auto)]
+
 ghost use Rattle.std.specs.Prelude.{◌≡◌, ◌+◌, ◌≤◌, ◌<◌, length, get_or, drop};
 ghost use Rattle.fields.specs.Fields.{type_of, types, size, ends_among, fits_table};
 

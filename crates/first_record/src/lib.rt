@@ -1,4 +1,6 @@
 // The first record of a stream: document 01, "Order of checks", First record.
+#![tactic(auto)]
+
 ghost use Rattle.std.specs.Prelude.{◌≡◌, ◌≤◌, length};
 ghost use Rattle.first_record.specs.First.{in_order, judge_ordered, judge_in, judge_first};
 

@@ -1,6 +1,8 @@
 // One whole stream, followed chunk by chunk: document 01, "Tally program". Its records go to slot 0 of a house that has
 // no other slot open. How far it was followed is a function of all bytes, whatever the chunks were:
 // specs/Following.antt. What is written at its end is no business of this crate.
+#![tactic(auto)]
+
 mod chunks;
 
 pub use chunks::{begin, follow};

@@ -1,4 +1,6 @@
 // A slice as one record: document 01, "Record frame and kinds", REC_LEN, REC_TYP, REC_SUB.
+#![tactic(auto)]
+
 ghost use Rattle.std.specs.Prelude.{◌≡◌};
 ghost use Rattle.frames.specs.Frames.{is_record};
 

@@ -1,6 +1,8 @@
 // The house: document 01, "The house, its slots and its rows". Sessions draw rows from one pool, and each has a floor
 // of rows that nothing another session does can take. Here are its types; specs/ has the rules and what is proved of
 // them over any sequence of calls. The crate lent does what they say over lent rows, the crate calls by value.
+#![tactic(auto)]
+
 ghost use Rattle.std.specs.Prelude.{◌≡◌};
 ghost use Rattle.house.specs.House.{closed_slot, opened_slot, fresh};
 

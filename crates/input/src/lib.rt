@@ -1,6 +1,8 @@
 // Lines of standard input, one after another, over two lent buffers: a chunk as it was read, and the line that is put
 // together from chunks. A line longer than its buffer is passed over. No contract can say what is read; how a chunk is
 // cut and where its bytes go is promised.
+#![tactic(auto)]
+
 ghost use Rattle.std.specs.Prelude.{◌≡◌, ◌≤◌, length};
 ghost use Rattle.output.specs.Placed.{outcome, placed_at};
 ghost use Rattle.input.specs.Lines.{up_to};

@@ -1,5 +1,7 @@
 // What a delivered record does to one session, whatever it is: document 01, "Order of checks", Deliver: the record, and
 // "Order of a stream". The first record of a stream and the later ones have their rules in crates of their own.
+#![tactic(auto)]
+
 ghost use Rattle.std.specs.Prelude.{◌≡◌};
 ghost use Rattle.session.specs.Session.{LentParts};
 ghost use Rattle.judging.specs.Judge.{judge, judged};

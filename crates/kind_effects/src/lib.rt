@@ -1,5 +1,7 @@
 // What each kind of record does to a session, once it is in its place and its body fits: document 01, "Order of
 // checks", Later records, 9 to 12, 14 and 20; #103, 22, 23 and 33.
+#![tactic(auto)]
+
 ghost use Rattle.std.specs.Prelude.{◌≡◌, true, map, ◌≤◌, ◌<◌, ◌+◌, ◌*◌, length, take};
 ghost use Rattle.rising.specs.Rising.{rising, rank, held};
 ghost use Rattle.session.specs.Session.{LentParts, part_of, key_of, wafer_head};

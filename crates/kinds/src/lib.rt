@@ -1,4 +1,6 @@
 // Which kind of record a type and a subtype name: document 01, "Record frame and kinds".
+#![tactic(auto)]
+
 ghost use Rattle.std.specs.Prelude.{◌≡◌, ◌+◌, ◌*◌, ◌<◌};
 ghost use Rattle.kinds.specs.Kinds.{pairs, has_type, beyond_table, kind_of, known};
 

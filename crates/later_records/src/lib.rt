@@ -1,4 +1,6 @@
 // The later records of a stream: document 01, "Order of checks", Later records.
+#![tactic(auto)]
+
 ghost use Rattle.std.specs.Prelude.{◌≡◌};
 ghost use Rattle.session.specs.Session.{LentParts};
 ghost use Rattle.later_records.specs.Later.{at, judge_later};

@@ -1,6 +1,8 @@
 // What a record delivered to one open slot does, over lent rows and parts: document 01, Calls, Deliver. The caller
 // knows that the house is sound: nothing is tested twice and nothing is copied, so that loops over many records stand
 // on this.
+#![tactic(auto)]
+
 ghost use Rattle.std.specs.Prelude.{◌≡◌, ◌≤◌, ◌<◌, take, set};
 ghost use Rattle.rising.specs.Rising.{rank};
 ghost use Rattle.rows.specs.Rows.{row_key};

@@ -1,6 +1,8 @@
 // The calls on record lines as the desk makes them: `write`, a record to its line, and `read`, a line to its record; and
 // what is written of them. Document 01, "Count lines". No contract can say what is written to standard output, so
 // nothing is promised here but safety.
+#![tactic(auto)]
+
 ghost use Rattle.std.specs.Prelude.{◌≡◌, ◌≤◌, length};
 
 use asking::Way;

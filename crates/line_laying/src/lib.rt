@@ -1,5 +1,7 @@
 // Fields laid out one after the other, as the text of a line or as a record: document 01, "Count lines", a
 // stated offset of the lent output; #103, dates. Each writer gets the part behind what the last one wrote.
+#![tactic(auto)]
+
 ghost use Rattle.std.specs.Prelude.{◌≡◌, ◌+◌, ◌-◌, ◌*◌, ◌≤◌, ◌<◌, [], ◌∷◌, length};
 ghost use Rattle.numbers.specs.Numbers.{written};
 ghost use Rattle.output.specs.Placed.{Put, Room, outcome, placed_at};

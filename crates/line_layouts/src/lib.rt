@@ -1,4 +1,6 @@
 // How lines and their records are laid out, field after field: document 01, "Count lines", and #103.
+#![tactic(auto)]
+
 pub mod columns;
 pub mod forms;
 pub mod judging;

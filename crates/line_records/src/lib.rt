@@ -1,5 +1,7 @@
 // A record taken apart that has a line: document 01, "Record frame and kinds", PCR, HBR and SBR, and orders of checks,
 // 3, 6, 7; #103, WIR and WRR.
+#![tactic(auto)]
+
 mod walking;
 
 ghost use Rattle.std.specs.Prelude.{◌≡◌};

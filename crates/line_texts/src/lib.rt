@@ -1,4 +1,6 @@
 // A line taken apart: document 01, "Count lines", Read; #103, WIR and WRR lines.
+#![tactic(auto)]
+
 pub mod contents;
 mod pieces;
 

@@ -1,5 +1,7 @@
 // Lines of ATDF and the records they stand for, from either one to the other: document 01, "Count lines"; #103, WIR and
 // WRR.
+#![tactic(auto)]
+
 mod reading;
 mod writing;
 

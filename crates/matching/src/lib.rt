@@ -1,4 +1,6 @@
 // Two texts compared to their last byte: no rule of its own. What a text means is its reader's to say.
+#![tactic(auto)]
+
 ghost use Rattle.std.specs.Prelude.{◌≡◌};
 ghost use Rattle.matching.specs.Matching.{same};
 

@@ -1,6 +1,8 @@
 // The calendar that dates are converted by: #103, month lengths with one row for leap years, used both ways. Months
 // and days are counted from January 1970. first_day and month_of_day are walks over the months, and nothing else of a
 // date is: what takes their place keeps their promises.
+#![tactic(auto)]
+
 ghost use Rattle.std.specs.Prelude.{◌≡◌, ◌≤◌, ◌<◌};
 ghost use Rattle.months.specs.Months.{leap_row, length_of, first_day, month_of, last_month, last_day};
 

@@ -1,6 +1,8 @@
 // Numbers of STDF in a part of a slice: document 01, "Record frame and kinds", CPU_TYPE and the byte order. Each
 // function reads or writes at the start of the part that it is lent; the caller has judged that the number lies in
 // it.
+#![tactic(auto)]
+
 ghost use Rattle.std.specs.Prelude.{◌≡◌, ◌≤◌, ◌<◌, [], ◌∷◌, length};
 ghost use Rattle.numbers.specs.Orders.{order_of};
 ghost use Rattle.numbers.specs.Numbers.{worth, number, signed, front, written, over};

@@ -1,5 +1,7 @@
 // The order of a stream: document 01, "Order of a stream". specs/Order.antt has it as a table, a row for each place; the
 // code reads the same table by columns, one for each kind.
+#![tactic(auto)]
+
 ghost use Rattle.std.specs.Prelude.{◌≡◌};
 ghost use Rattle.order.specs.declared.Place.TheVariants.{Body};
 ghost use Rattle.order.specs.declared.Step.TheVariants.{To, OutOfPlace};

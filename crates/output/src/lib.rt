@@ -1,6 +1,8 @@
 // Bytes placed in a lent output: document 01, "Count lines", a stated offset, and "Refusal numbers", 17. Each writer
 // puts its bytes at the start of the part that it is lent and returns how many; the next one gets the part behind
 // them.
+#![tactic(auto)]
+
 ghost use Rattle.std.specs.Prelude.{◌+◌, ◌≤◌, [], ◌∷◌, length};
 ghost use Rattle.output.specs.Placed.{Put, Room, part};
 

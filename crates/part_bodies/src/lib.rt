@@ -1,4 +1,6 @@
 // What the records of parts say: document 01, "Record frame and kinds", PIR and PRR.
+#![tactic(auto)]
+
 ghost use Rattle.std.specs.Prelude.{◌≡◌, ◌≤◌, length};
 ghost use Rattle.fields.specs.Tables.{fits_body, prr};
 ghost use Rattle.part_bodies.specs.Parts.{pir_of, prr_of, prr_values_fit, pir_body_fits, prr_body_fits};

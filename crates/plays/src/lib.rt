@@ -1,5 +1,7 @@
 // One function that plays a call, a value: document 01, "The house, its slots and its rows", Calls; document 02, #102.
 // What sits above a house by lines or files (the desk, a replay) makes such a value and says what comes back.
+#![tactic(auto)]
+
 ghost use Rattle.std.specs.Prelude.{◌≡◌};
 ghost use Rattle.house.specs.History.{Reply};
 ghost use Rattle.plays.specs.Plays.{asks, holds, listed_as, fed_as, played, held_by, leaves};

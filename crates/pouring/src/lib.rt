@@ -2,6 +2,8 @@
 // first and topped up from the chunk while it holds part of a record; then the chunk, where it lies. A record that lies
 // whole in the chunk is judged there; only one that is cut is copied. specs/Pouring.antt says what it comes to. No house is
 // known here.
+#![tactic(auto)]
+
 ghost use Rattle.std.specs.Prelude.{◌≡◌, false, [], ◌++◌, ◌+◌, ◌≤◌, ◌<◌, length, take, drop};
 ghost use Rattle.house.specs.House.{carry_length};
 ghost use Rattle.cutting.specs.Needed.{needed};

@@ -1,5 +1,7 @@
 // The report of a slot: document 01, Calls, Report. It is judged, its rows are laid one after the other into an array,
 // and `report` writes them into a lent slice.
+#![tactic(auto)]
+
 ghost use Rattle.std.specs.Prelude.{◌≡◌, ◌≤◌, ◌<◌, length};
 ghost use Rattle.house.specs.Deliver.{past_counts};
 ghost use Rattle.house.specs.Report.{keyed_row, row_at, rows_of, rows_from, reported, filled, no_rows, listing};

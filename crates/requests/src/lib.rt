@@ -1,4 +1,6 @@
 // What a whole line of the desk asks for: a call on the house, a call on a record line, or no call.
+#![tactic(auto)]
+
 mod cutting;
 
 use asking::Asked;

@@ -1,5 +1,7 @@
 // What the test of a house's soundness asks of its rows: document 01, "A house is sound". All is over lent slices:
 // `used` cells of each are in use, and nothing is known of what stands in them that a contract does not ask for.
+#![tactic(auto)]
+
 ghost use Rattle.std.specs.Prelude.{◌≡◌, true, ◌≤◌, ◌<◌, eqb, length, take};
 ghost use Rattle.rising.specs.Rising.{rising, all_below};
 ghost use Rattle.rows.specs.Rows.{sum_by, bits_fit, rows_open, rows_fit, Kept};

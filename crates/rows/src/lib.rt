@@ -1,6 +1,8 @@
 // The rows of a house: document 01, "The house, its slots and its rows". The keys in use rise strictly and begin with
 // their slot, so a slot's rows are the stretch between two ranks. All is over lent slices: `used` cells of each are
 // in use.
+#![tactic(auto)]
+
 ghost use Rattle.std.specs.Prelude.{◌≡◌, true, ◌≤◌, ◌<◌, length, take};
 ghost use Rattle.rising.specs.Rising.{rising};
 ghost use Rattle.rows.specs.Rows.{slot_rank, held_by, rows, counted, slot_dropped, Kept, Countable};

@@ -1,5 +1,7 @@
 // A strictly rising list tested and searched faster than `rising` does it, where more is known of it: document 01, "The
 // house, its slots and its rows", for the keys of a house's rows. The answers are the same.
+#![tactic(auto)]
+
 ghost use Rattle.std.specs.Prelude.{◌≡◌, true, ◌≤◌, length, take};
 ghost use Rattle.rising.specs.Rising.{rising, rank, all_below};
 

@@ -1,6 +1,8 @@
 // A session: document 01, "The house, its slots and its rows", an open slot without its rows; and what a record may do
 // to one, as a verdict says it. Nothing here knows of a house: whether there is room (13) is judged elsewhere, and
 // last.
+#![tactic(auto)]
+
 mod sound;
 
 ghost use Rattle.std.specs.Prelude.{◌≡◌};

@@ -1,5 +1,7 @@
 // A verdict settled: the session after a record. Document 01, Calls, Deliver, as one session sees it. Here alone is it
 // known what a change does, over lent cells and by value.
+#![tactic(auto)]
+
 ghost use Rattle.std.specs.Prelude.{◌≡◌, length};
 ghost use Rattle.settling.specs.Settling.{lent_session, changed, after, Within, Settles};
 

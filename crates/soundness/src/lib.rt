@@ -1,5 +1,7 @@
 // Whether a house is sound, and what it owes: document 01, "A house is sound". Three passes over the rows, one over the
 // slots; by value, and over lent rows, so that a call which goes on with the house copies no row to test it.
+#![tactic(auto)]
+
 mod rooms;
 
 ghost use Rattle.std.specs.Prelude.{◌≡◌, true, ◌&&◌, ◌≤◌, ◌<◌, length, take};

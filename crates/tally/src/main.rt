@@ -1,6 +1,8 @@
 // The tally program: document 01, "Tally program". One STDF stream on standard input, its text on standard output. All
 // that is judged or said is in `following` and `tallying`; this reads and writes. What is promised: the text is that of
 // bytes, as many as the reads gave, and a stream that goes on is read to the end of the input (specs/Reading.antt).
+#![tactic(auto)]
+
 ghost use Rattle.std.specs.Prelude.{◌≡◌, ◌+◌, ◌≤◌, ◌<◌, length};
 ghost use Rattle.tallying.specs.Lined.{most_text};
 ghost use Rattle.tally.specs.Reading.{roomy, plenty, more_after, Reads, is_going, Through, Told};

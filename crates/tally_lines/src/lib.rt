@@ -1,5 +1,7 @@
 // The lines that end a stream: document 01, "Tally program". Each writer puts its bytes at the start of the part that
 // it is lent; a row's line goes to an offset.
+#![tactic(auto)]
+
 ghost use Rattle.std.specs.Prelude.{◌+◌, ◌≤◌, length};
 ghost use Rattle.answers.specs.Numbers.{OfBytes};
 ghost use Rattle.output.specs.Placed.{Put, Room};

@@ -1,6 +1,8 @@
 // The text of one whole stream, written at its end: document 01, "Tally program". Crate `following` has the stream, chunk
 // by chunk. What is promised is a function of all bytes: specs/Text.antt; specs/Told.antt says it of the calls and their
 // answers.
+#![tactic(auto)]
+
 ghost use Rattle.std.specs.Prelude.{◌≡◌, ◌+◌, ◌≤◌, length, take};
 ghost use Rattle.order.specs.Laws.{ended as isEnded};
 ghost use Rattle.output.specs.Placed.{Put};

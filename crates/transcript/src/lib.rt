@@ -1,5 +1,7 @@
 // What transcripts are written with: words, numbers and the names of document 01 on standard output. No contract can
 // say what is written; a program's output is held to the file stdout beside it.
+#![tactic(auto)]
+
 mod names;
 
 use answers::{Answer, Values};

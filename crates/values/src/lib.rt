@@ -1,5 +1,7 @@
 // What stands in a field: document 01, "Record frame and kinds", value rules and optional fields. Each function reads
 // at a stated offset of a body.
+#![tactic(auto)]
+
 ghost use Rattle.std.specs.Prelude.{◌≡◌, ◌+◌, ◌≤◌, length};
 ghost use Rattle.numbers.specs.Numbers.{number, front};
 ghost use Rattle.values.specs.Values.{count_at, pass_fail_at, name_at, soft_bin_fits, pass_fail_fits};

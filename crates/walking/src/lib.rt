@@ -1,6 +1,8 @@
 // The records of a stream, one after another, delivered to one slot over lent rows, guesses and parts: document 01,
 // "Tally program" and Calls, Deliver. Any slot, any room, and a stream in any chunks: specs/Walking.antt says what a
 // walk over bytes comes to. No house is known here.
+#![tactic(auto)]
+
 mod passing;
 mod steps;
 
