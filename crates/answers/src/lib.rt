@@ -4,7 +4,7 @@
 ghost use Rattle.std.specs.Prelude.{◌≡◌, ◌<◌};
 ghost use Rattle.answers.specs.Numbers.{saying_of, number_of, OfBytes};
 
-#[derive(Drop)]
+#[derive(Clone, Copy)]
 pub enum Answer {
     Done,
     NoSuchSlot,
@@ -36,14 +36,14 @@ pub enum Answer {
 }
 
 // What an answer carries beside its number: nothing, or the head and the site of a part.
-#[derive(Drop)]
+#[derive(Clone, Copy)]
 pub enum Values {
     Nothing,
     Part(u8, u8),
 }
 
 // An answer's number and its values.
-#[derive(Drop)]
+#[derive(Clone, Copy)]
 pub struct Saying(pub u8, pub Values);
 
 // Answer 12, which alone carries something.

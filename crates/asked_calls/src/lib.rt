@@ -4,7 +4,7 @@
 
 // The five calls; a feed, with how long a carry is lent to it, and the end of feeding (#102). An enum holds no
 // reference, so the bytes of a record or a chunk, and the carry, are lent beside it.
-#[derive(Drop)]
+#[derive(Clone, Copy)]
 pub enum Call {
     Open(u32, u32),
     Deliver(u32),

@@ -15,7 +15,7 @@ use numerals::{is_bytes, number_of};
 use script::Verb;
 
 // Which way a record line's call goes: a record to its line, or a line to its record.
-#[derive(Drop)]
+#[derive(Clone, Copy)]
 pub enum Way {
     Write,
     Read,
@@ -23,7 +23,7 @@ pub enum Way {
 
 // What a line asks for. The bytes that a delivery, a feed or a record line's call hands over are beside it, as a
 // record's are beside its call.
-#[derive(Drop)]
+#[derive(Clone, Copy)]
 pub enum Asked {
     Nothing,
     Comment,

@@ -18,7 +18,7 @@ use transcript::{say, say_number};
 const MOST_CHUNK: usize = 262144;
 
 // What was fed: all bytes taken, and the last answer.
-#[derive(Drop)]
+#[derive(Clone, Copy)]
 struct Feeding {
     taken: u64,
     last: Fed,

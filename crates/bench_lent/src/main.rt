@@ -17,7 +17,7 @@ use transcript::{say, say_number};
 const TURNS: u64 = 20480000;
 
 // How many records were accepted, rows used and parts counted.
-#[derive(Drop)]
+#[derive(Clone, Copy)]
 struct Ran {
     accepted: u64,
     used: usize,

@@ -12,7 +12,7 @@ use kinds::Kind;
 use numbers::Order;
 use part_bodies::{Pir, Prr};
 
-#[derive(Drop)]
+#[derive(Clone, Copy)]
 pub struct Far {
     pub cpu: u8,
     pub version: u8,
@@ -20,14 +20,14 @@ pub struct Far {
 
 // The head and the site group of a wafer's record: a stream tells its open wafers apart by these two. No other field of a
 // WIR or WRR is judged, beyond that it is whole; the lines read them again, field by field, where they are written.
-#[derive(Drop)]
+#[derive(Clone, Copy)]
 pub struct Wafer {
     pub head: u8,
     pub group: u8,
 }
 
 // What is read of a body. A kind that is none of the first nine cases has its body unread.
-#[derive(Drop)]
+#[derive(Clone, Copy)]
 pub enum Record {
     Far(Far),
     Mir,
@@ -42,7 +42,7 @@ pub enum Record {
 }
 
 // A body that fits its kind, or one that does not: 7.
-#[derive(Drop)]
+#[derive(Clone, Copy)]
 pub enum Reading {
     Fits(Record),
     Misfit,

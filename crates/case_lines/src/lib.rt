@@ -17,7 +17,7 @@ use transcript::say;
 
 // Where the input stands behind the last line; the letter of its verb, 0 where it was no call; how many bytes it had;
 // and whether the input has ended.
-#[derive(Drop)]
+#[derive(Clone, Copy)]
 pub struct Call {
     pub input: Input,
     pub verb: u8,
@@ -25,7 +25,7 @@ pub struct Call {
     pub ended: bool,
 }
 
-#[derive(Drop)]
+#[derive(Clone, Copy)]
 struct Asked {
     verb: u8,
     bytes: usize,

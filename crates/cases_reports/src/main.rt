@@ -14,7 +14,7 @@ use session::Session;
 use transcript::{say, say_answer, say_number};
 
 // A slice of two rows after a report, and what the report answered.
-#[derive(Drop)]
+#[derive(Clone, Copy)]
 struct Pair {
     reported: Reported,
     rows: [Row; 2],

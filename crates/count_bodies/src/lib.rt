@@ -11,7 +11,7 @@ use values::{
     MOST_BIN, Naming, Optional, count_at, name_at, pass_fail_at, pass_fail_fits, u2_at, u4_at,
 };
 
-#[derive(Drop)]
+#[derive(Clone, Copy)]
 pub struct Pcr {
     pub head: u8,
     pub site: u8,
@@ -23,7 +23,7 @@ pub struct Pcr {
 }
 
 // HBR, or SBR where `soft`. The value of P/F, `pf`, is the byte P or F.
-#[derive(Drop)]
+#[derive(Clone, Copy)]
 pub struct Bin {
     pub soft: bool,
     pub head: u8,

@@ -14,7 +14,7 @@ pub use reading::read_date;
 pub use writing::{date_size, write_date};
 
 // The fields of a date, the months of a year counted from 0.
-#[derive(Drop)]
+#[derive(Clone, Copy)]
 pub struct Moment {
     pub year: u32,
     pub month: u32,
@@ -25,7 +25,7 @@ pub struct Moment {
 }
 
 // What a text is the date of.
-#[derive(Drop)]
+#[derive(Clone, Copy)]
 pub enum Dated {
     Time(u32),
     NotADate,

@@ -91,7 +91,7 @@ pub fn width(n: u32) -> usize
 }
 
 // What text says as a number. Ten digits may pass what a u32 holds: the range is the caller's to judge.
-#[derive(Drop)]
+#[derive(Clone, Copy)]
 pub enum Numeral {
     Value(u64),
     NotANumber,

@@ -9,7 +9,7 @@ use numbers::Order;
 
 // The type of a field: an integer of a width, unsigned or signed; a character; eight bits; and the two whose count
 // byte tells how many bytes stand behind it.
-#[derive(Drop)]
+#[derive(Clone, Copy)]
 pub enum FieldType {
     U(usize),
     I(usize),

@@ -13,7 +13,7 @@ use walking::Fate;
 // A stream as far as it was followed: slot 0's rows and session, the number of records accepted, and how many bytes
 // of an unfinished record are held. They stand at the front of the lent buffer. No answer depends on the guesses, by
 // which rows are looked for.
-#[derive(Drop)]
+#[derive(Clone, Copy)]
 pub struct Stream {
     pub keys: [u64; House::ROWS],
     pub counts: [u64; House::ROWS],

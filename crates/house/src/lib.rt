@@ -11,7 +11,7 @@ use session::{Session, Standing};
 
 // A slot: closed, or a session with its floor. `held` is how many bytes of its stream wait in the carry that the session
 // lends (#102): they go with the carry, and no record is judged by them.
-#[derive(Drop)]
+#[derive(Clone, Copy)]
 pub struct Slot {
     pub taken: bool,
     pub floor: u32,
@@ -20,7 +20,7 @@ pub struct Slot {
 }
 
 // The rows in use stand first in both arrays, their keys rising: slot, head, site and bin in one number.
-#[derive(Drop)]
+#[derive(Clone, Copy)]
 pub struct House {
     pub keys: [u64; House::ROWS],
     pub counts: [u64; House::ROWS],
@@ -29,21 +29,21 @@ pub struct House {
 }
 
 // What a test of a house tells: whether it is sound, and how many rows are promised, 0 where it is not.
-#[derive(Drop)]
+#[derive(Clone, Copy)]
 pub struct Soundness {
     pub sound: bool,
     pub promised: u32,
 }
 
 // The answer of a call, and the house after it.
-#[derive(Drop)]
+#[derive(Clone, Copy)]
 pub struct Answered {
     pub answer: Answer,
     pub house: House,
 }
 
 // The answer of a feed (#102), how many bytes of its chunk were taken, and the house after it.
-#[derive(Drop)]
+#[derive(Clone, Copy)]
 pub struct Fed {
     pub answer: Answer,
     pub taken: usize,
@@ -51,7 +51,7 @@ pub struct Fed {
 }
 
 // The answer of the operator's call, and its figures: 0 where it is refused.
-#[derive(Drop)]
+#[derive(Clone, Copy)]
 pub struct Figures {
     pub answer: Answer,
     pub free: u32,
@@ -59,7 +59,7 @@ pub struct Figures {
 }
 
 // What a slot sees of the house: its number, its floor, and the rows that are promised to all other slots.
-#[derive(Drop)]
+#[derive(Clone, Copy)]
 pub struct Room {
     pub slot: usize,
     pub floor: u32,
@@ -67,7 +67,7 @@ pub struct Room {
 }
 
 // What a record did: the answer, how many rows are in use, and the session's standing.
-#[derive(Drop)]
+#[derive(Clone, Copy)]
 pub struct Delivered {
     pub answer: Answer,
     pub used: usize,
@@ -75,14 +75,14 @@ pub struct Delivered {
 }
 
 // Whether a part result got its row: how many rows are in use once it is counted, or none.
-#[derive(Drop)]
+#[derive(Clone, Copy)]
 pub enum Granting {
     Rows(usize),
     NoRoom,
 }
 
 // A row of a report: its key and its count.
-#[derive(Drop)]
+#[derive(Clone, Copy)]
 pub struct Row {
     pub head: u8,
     pub site: u8,
@@ -91,14 +91,14 @@ pub struct Row {
 }
 
 // The answer of a report, and how many rows it wrote: none where it is refused.
-#[derive(Drop)]
+#[derive(Clone, Copy)]
 pub struct Reported {
     pub answer: Answer,
     pub rows: usize,
 }
 
 // A report by value: its rows are the first of as many as a house has.
-#[derive(Drop)]
+#[derive(Clone, Copy)]
 pub struct Listing {
     pub reported: Reported,
     pub rows: [Row; House::ROWS],

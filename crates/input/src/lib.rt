@@ -11,14 +11,14 @@ use answers::Answer;
 use output::{Written, put_part};
 
 // Of the first `got` bytes of the chunk the last `left` are still to be taken.
-#[derive(Drop)]
+#[derive(Clone, Copy)]
 pub struct Input {
     pub got: usize,
     pub left: usize,
 }
 
 // A line of `long` bytes, without its LF; one that does not fit; or no line, since the input has ended.
-#[derive(Drop)]
+#[derive(Clone, Copy)]
 pub enum Found {
     Line,
     TooLong,
@@ -26,7 +26,7 @@ pub enum Found {
 }
 
 // What was found, and where the input stands behind it.
-#[derive(Drop)]
+#[derive(Clone, Copy)]
 pub struct Next {
     pub input: Input,
     pub found: Found,
@@ -34,7 +34,7 @@ pub struct Next {
 }
 
 // A line of which `long` bytes have come, while it fits. It is going on until its LF, or the input's end, has come.
-#[derive(Drop)]
+#[derive(Clone, Copy)]
 struct Gathered {
     got: usize,
     left: usize,

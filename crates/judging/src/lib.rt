@@ -13,7 +13,7 @@ use session::{Session, Standing, Verdict, is_sound, is_start};
 use settling::settle_verdict;
 
 // A verdict, and the whole session after it; of a part result, if its row is granted.
-#[derive(Drop)]
+#[derive(Clone, Copy)]
 pub struct Judged {
     pub verdict: Verdict,
     pub session: Session,

@@ -5,7 +5,7 @@ ghost use Rattle.std.specs.Prelude.{◌≡◌, ◌+◌, ◌*◌, ◌<◌};
 ghost use Rattle.kinds.specs.Kinds.{pairs, has_type, beyond_table, kind_of, known};
 
 // The kinds of STDF V4 whose bodies this house does not read and whose places within the body it does not judge.
-#[derive(Drop)]
+#[derive(Clone, Copy)]
 pub enum Remaining {
     Pmr,
     Pgr,
@@ -22,7 +22,7 @@ pub enum Remaining {
 }
 
 // The kind of a record: one of STDF V4's twenty-five, a custom one, or unknown.
-#[derive(Drop)]
+#[derive(Clone, Copy)]
 pub enum Kind {
     Far,
     Atr,
@@ -43,7 +43,7 @@ pub enum Kind {
 }
 
 // A type, a subtype and the kind that they name.
-#[derive(Drop)]
+#[derive(Clone, Copy)]
 pub struct Pair(pub u8, pub u8, pub Kind);
 
 const PAIR_COUNT: usize = 25;

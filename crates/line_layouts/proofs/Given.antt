@@ -1,7 +1,7 @@
 -- Of what fits, a line misses nothing that it must give but a time: each other column that text must give is never
 -- missing in a record, by computation.
 -- Assumes nothing.
-use mathlib.Core.Path.{◌≡◌, refl, ap, ◌∙◌}
+use mathlib.Core.Path.{◌≡◌, refl}
 use mathlib.Core.Bool.{Bool, true, false, not, ◌&&◌, ◌||◌}
 use mathlib.Core.List.{List, [], ◌∷◌}
 use Rattle.prelude.specs.Each.{each}

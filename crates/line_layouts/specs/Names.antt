@@ -4,7 +4,7 @@
 --   entry_allowed   whether an entry can be written as text
 --   separates      which bytes may stand between fields
 -- Assumes nothing.
-use Rattle.std.specs.Prelude.{Bool, true, not, ◌&&◌, List, ℕ, eqb, leb}
+use Rattle.std.specs.Prelude.{Bool, true, not, ◌&&◌, ℕ, eqb, leb}
 use Prim.Native.Char.{code}
 use Rattle.prelude.specs.Each.{each}
 use Rattle.digits.specs.Digits.{is_digit}

@@ -11,7 +11,7 @@ use numbers::Order;
 use values::Name;
 
 // The lines that are written and read: three of counts, two of wafers.
-#[derive(Drop)]
+#[derive(Clone, Copy)]
 pub enum Tag {
     Pcr,
     Hbr,
@@ -21,7 +21,7 @@ pub enum Tag {
 }
 
 // The type of a field in a record. A time is a number of four bytes there, and in text a date.
-#[derive(Drop)]
+#[derive(Clone, Copy)]
 pub enum Form {
     U1,
     U2,
@@ -33,7 +33,7 @@ pub enum Form {
 
 // How a field of a record is missing: never; by a value of its own; or with the field before it, beside which it is
 // stored as missing and is else a number as any other.
-#[derive(Drop)]
+#[derive(Clone, Copy)]
 pub enum Flag {
     Never,
     Own,
@@ -42,52 +42,52 @@ pub enum Flag {
 
 // A field's type, the most that its text may hold, whether text must give it, and how a record leaves it out. The most
 // is for a number the greatest value, for P/F and a name the bytes that are kept.
-#[derive(Drop)]
+#[derive(Clone, Copy)]
 pub struct Column(pub Form, pub u32, pub bool, pub Flag);
 
 // What a field says: P/F and a name are text, told by its place and its length in a source.
-#[derive(Drop)]
+#[derive(Clone, Copy)]
 pub enum Said {
     Missing,
     Number(u32),
     Text(Name),
 }
 
-#[derive(Drop)]
+#[derive(Clone, Copy)]
 pub struct Field {
     pub said: Said,
 }
 
 // A line or a record, taken apart: fields past the tag's columns are missing.
-#[derive(Drop)]
+#[derive(Clone, Copy)]
 pub struct Line {
     pub tag: Tag,
     pub fields: [Field; 14],
 }
 
 // How fields are laid out: as the text of a line, with a byte between them, or as a record in a byte order.
-#[derive(Drop)]
+#[derive(Clone, Copy)]
 pub enum Layout {
     Text(u8),
     Record(Order),
 }
 
 // Which line a text begins, or a kind of record has.
-#[derive(Drop)]
+#[derive(Clone, Copy)]
 pub enum Tagging {
     Known(Tag),
     Other,
 }
 
 // Whether something stands against a line.
-#[derive(Drop)]
+#[derive(Clone, Copy)]
 pub enum Fault {
     None,
     Found(Answer),
 }
 
 // A line or a record taken apart, or the answer that it is refused with; then the line has nothing to say.
-#[derive(Drop)]
+#[derive(Clone, Copy)]
 pub struct Judged {
     pub fault: Fault,
     pub line: Line,

@@ -15,7 +15,7 @@ use line_layouts::{Judged, Said, Tag, Tagging};
 use numbers::Order;
 
 // What a field says, and where the next one begins.
-#[derive(Drop)]
+#[derive(Clone, Copy)]
 pub enum Step {
     Says(Said, usize),
     Misfit,

@@ -7,7 +7,7 @@ mod pieces;
 use values::Name;
 
 // A piece of a text, by its place; where the next one begins, if there are more.
-#[derive(Drop)]
+#[derive(Clone, Copy)]
 pub struct Piece {
     pub place: Name,
     pub next: usize,
@@ -15,7 +15,7 @@ pub struct Piece {
 }
 
 // A text behind its tag, cut into as many pieces as the tag has columns; whether there are more.
-#[derive(Drop)]
+#[derive(Clone, Copy)]
 pub struct Cut {
     pub places: [Name; 14],
     pub more: bool,

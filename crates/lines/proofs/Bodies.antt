@@ -1,9 +1,9 @@
 -- How long the record of a meaning that fits is at most, and that one is as long (specs/Laws.antt, RecordMost and
 -- LongestRecord).
 -- Assumes nothing.
-use mathlib.Core.Path.{◌≡◌, refl, ap, ◌∙◌}
-use mathlib.Core.Bool.{Bool, true, false, cond, not, ◌&&◌, ◌||◌}
-use mathlib.Core.List.{List, [], ◌∷◌, ◌++◌}
+use mathlib.Core.Path.{◌≡◌, refl, ap}
+use mathlib.Core.Bool.{true, false, cond, ◌||◌}
+use mathlib.Core.List.{List, [], ◌∷◌}
 use Prim.Native.Nat.{ℕ, zero, suc, ◌+◌, ◌-◌, ◌≤◌}
 use native.Mathlib.Omega.{arith}
 use borrow.Author.Tests.{leb-true, eqb-true}
@@ -22,11 +22,11 @@ use Rattle.line_layouts.specs.declared.Form.TheVariants.{U1, U2, U4, Time, C1, C
 use Rattle.line_layouts.specs.declared.Flag.{Flag}
 use Rattle.line_layouts.specs.declared.Column.{Column}
 use Rattle.line_layouts.specs.declared.Layout.TheVariants as layout
-use Rattle.line_layouts.specs.Columns.{columns, width, bar, type_of, sub_of}
-use Rattle.line_layouts.specs.Entries.{Entry, Missing, Number, Text, Meaning, kept, present}
-use Rattle.line_layouts.specs.Layouts.{missing_value, is_name, stored, laid, fields_of, head_of, record_of}
+use Rattle.line_layouts.specs.Columns.{columns, width, bar}
+use Rattle.line_layouts.specs.Entries.{Entry, Missing, Number, Text, kept, present}
+use Rattle.line_layouts.specs.Layouts.{missing_value, is_name, stored, laid, fields_of, head_of}
 use Rattle.line_layouts.specs.Fitting.{is_own, letter_fits, form_sound, form_fits, entry_fits}
-use Rattle.line_layouts.specs.Fitting.{entries_fit, table_sound, Fitting}
+use Rattle.line_layouts.specs.Fitting.{entries_fit, table_sound}
 use Rattle.line_layouts.proofs.Laid.{length_head}
 use Rattle.line_layouts.proofs.Tables.{sound, form_sound_lem, rest_sound}
 use Rattle.lines.specs.Laws.{most_body, longest, RecordMost, LongestRecord}

@@ -5,7 +5,7 @@ use mathlib.Core.Bool.{Bool, true, false, cond}
 use mathlib.Core.List.{List, [], ◌∷◌, ◌++◌}
 use Prim.Native.Nat.{ℕ, ◌+◌, ◌<◌}
 use lib.Dec.{leb}
-use lib.ListN.{length, get_or, take, drop}
+use lib.ListN.{length, take, drop}
 use lib.Seq.{get_or-drop}
 use Rattle.prelude.specs.Choice.{◌unless◌then◌}
 use Rattle.prelude.specs.Checks.{Check, ◌else◌, number_by}
@@ -34,7 +34,7 @@ use Rattle.line_layouts.specs.Entries.{Entry, Missing, Meaning}
 use Rattle.line_layouts.specs.Layouts.{text_by, text_of, record_of}
 use Rattle.line_layouts.specs.Names.{entry_allowed}
 use Rattle.line_layouts.specs.Fitting.{sits, all_given}
-use Rattle.line_layouts.specs.Judging.{Judging, Says, Faulty}
+use Rattle.line_layouts.specs.Judging.{Judging, Says}
 use Rattle.line_records.specs.Walks.{Fit, Fits, Misfit, meant}
 use Rattle.line_records.specs.Laws.{is_fit, kind_for}
 use Rattle.line_records.specs.Records.{count_tag, body_means, tagged_means, meaning}

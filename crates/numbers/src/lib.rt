@@ -8,14 +8,14 @@ ghost use Rattle.numbers.specs.Orders.{order_of};
 ghost use Rattle.numbers.specs.Numbers.{worth, number, signed, front, written, over};
 
 // Which byte of an integer comes first.
-#[derive(Drop)]
+#[derive(Clone, Copy)]
 pub enum Order {
     HighFirst,
     LowFirst,
 }
 
 // What a CPU_TYPE says of the order.
-#[derive(Drop)]
+#[derive(Clone, Copy)]
 pub enum Ordering {
     Known(Order),
     Unknown,

@@ -9,7 +9,7 @@ pub use decimals::{number_of, up_to};
 pub use hex::{is_bytes, is_hex, unhex};
 
 // A word as a number.
-#[derive(Drop)]
+#[derive(Clone, Copy)]
 pub enum Number {
     Is(u64),
     Not,

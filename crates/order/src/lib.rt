@@ -11,7 +11,7 @@ use kinds::Kind;
 
 // Where a stream stands: before its FAR; in its header, behind the FAR and any ATRs; behind its MIR; behind an RDR or
 // SDR; in its body; behind its MRR.
-#[derive(Drop)]
+#[derive(Clone, Copy)]
 pub enum Place {
     Start,
     Header,
@@ -22,7 +22,7 @@ pub enum Place {
 }
 
 // Where a record takes a stream, or that it is out of place: 8.
-#[derive(Drop)]
+#[derive(Clone, Copy)]
 pub enum Step {
     To(Place),
     OutOfPlace,

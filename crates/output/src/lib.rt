@@ -9,7 +9,7 @@ ghost use Rattle.output.specs.Placed.{Put, Room, part};
 use answers::Answer;
 
 // What a call that fills a lent output answers: the bytes written, or a refusal.
-#[derive(Drop)]
+#[derive(Clone, Copy)]
 pub enum Written {
     Bytes(usize),
     Refused(Answer),

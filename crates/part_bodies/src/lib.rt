@@ -9,13 +9,13 @@ use fields::{PIR, PRR, fits_from};
 use numbers::Order;
 use values::{ALL_SITES, MOST_BIN, soft_bin_fits, u2_at};
 
-#[derive(Drop)]
+#[derive(Clone, Copy)]
 pub struct Pir {
     pub head: u8,
     pub site: u8,
 }
 
-#[derive(Drop)]
+#[derive(Clone, Copy)]
 pub struct Prr {
     pub head: u8,
     pub site: u8,

@@ -13,7 +13,7 @@ use house::{Answered, Fed, Figures, House, Listing, Row};
 use reports::{list_rows, no_rows};
 
 // What a call is answered, and the house after it. Figures, rows and bytes taken are none where it asks for none.
-#[derive(Drop)]
+#[derive(Clone, Copy)]
 pub struct Played {
     pub answer: Answer,
     pub free: u32,

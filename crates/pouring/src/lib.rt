@@ -20,7 +20,7 @@ use walking::{Fate, Stop, stage_of, standing_of, walk};
 
 // How far a feed is, but for rows, guesses and parts, which are lent: `held` bytes stand at the front of the carry, and
 // `at` bytes of the chunk were moved there, or judged where they lie.
-#[derive(Drop)]
+#[derive(Clone, Copy)]
 pub struct Pour {
     pub used: usize,
     pub standing: Standing,

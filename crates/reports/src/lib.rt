@@ -107,8 +107,7 @@ pub fn list_rows(house: House, slot: u32, long: usize) -> Listing
     Listing { reported, rows }
 }
 
-// Reports a slot into a lent slice. Whatever touches a slice of row structs has to be proved by hand: so this only
-// copies what is listed.
+// Reports a slot into a lent slice: it only copies what is listed.
 pub fn report(out: &mut [Row], house: House, slot: u32) -> Reported
     ensures { (result ≡ reported house slot (length out.old))
         × (out.new ≡ filled (row_at house slot) result.rows out.old) }

@@ -12,7 +12,7 @@ use numerals::unhex;
 use script::{Verb, verb_of, word_end};
 
 // What a line asks for, and where its last word starts, if it hands bytes over.
-#[derive(Drop)]
+#[derive(Clone, Copy)]
 struct Found {
     asked: Asked,
     from: usize,

@@ -7,7 +7,7 @@ use asking::Asked;
 pub use cutting::read_request;
 
 // What a line asks for, and how many bytes it hands over: they stand at its start.
-#[derive(Drop)]
+#[derive(Clone, Copy)]
 pub struct Request {
     pub asked: Asked,
     pub bytes: usize,

@@ -7,7 +7,7 @@ mod words;
 pub use words::{verb_of, word_end};
 
 // What a line asks for, by its first word.
-#[derive(Drop)]
+#[derive(Clone, Copy)]
 pub enum Verb {
     Fresh,
     Open,

@@ -16,7 +16,7 @@ pub use sound::{is_sound, nothing_yet, parts_right, stands_right, wafers_right};
 
 // A session but for its lists of open parts and of open wafers, of which it has the numbers: what most records change,
 // if anything.
-#[derive(Drop)]
+#[derive(Clone, Copy)]
 pub struct Standing {
     pub place: Place,
     pub order: Order,
@@ -29,7 +29,7 @@ pub struct Standing {
 // The open parts stand rising in the first `opened` of 32 cells, each as head * 256 + site; the open wafers in the
 // first `wafers` of the 8 cells behind those, in rising order of head, each as head * 256 + site group. One row of
 // cells, so that what is lent of a session is one slice.
-#[derive(Drop)]
+#[derive(Clone, Copy)]
 pub struct Session {
     pub standing: Standing,
     pub parts: [u64; 40],
@@ -38,7 +38,7 @@ pub struct Session {
 // What an accepted record makes of a session: its standing after it, and what becomes of its open parts and
 // wafers. Those that judge and settle alone look into it: a house hands it back to be settled, so that a kind with an
 // effect of its own is no business of a house.
-#[derive(Drop)]
+#[derive(Clone, Copy)]
 pub enum Change {
     // The parts and the wafers stay.
     Stands(Standing),
@@ -53,7 +53,7 @@ pub enum Change {
 }
 
 // What a record does to a session.
-#[derive(Drop)]
+#[derive(Clone, Copy)]
 pub enum Verdict {
     // Refused, with its number.
     Refused(Answer),

@@ -55,7 +55,7 @@ fn slot_sound<'a>(
 }
 
 // What the slots tell: whether each is sound, the rows promised, and which are open.
-#[derive(Drop)]
+#[derive(Clone, Copy)]
 struct SlotsTold {
     sound: bool,
     promised: u64,

@@ -18,7 +18,7 @@ const BUFFER: usize = 327680;
 const PLENTY: u64 = 4611686018427387904;
 
 // What was read: how many bytes in all, how many of them last, and whether more may come.
-#[derive(Drop)]
+#[derive(Clone, Copy)]
 struct Input {
     read: u64,
     got: usize,
@@ -26,14 +26,14 @@ struct Input {
 }
 
 // A stream that was followed to the end of what was read.
-#[derive(Drop)]
+#[derive(Clone, Copy)]
 struct Ended {
     stream: Stream,
     input: Input,
 }
 
 // The text of what was read: its bytes.
-#[derive(Drop)]
+#[derive(Clone, Copy)]
 struct Text {
     long: usize,
     input: Input,

@@ -21,21 +21,21 @@ pub const ALL_SITES: u8 = 255;
 const NO_COUNT: u32 = 4294967295;
 
 // An optional field: a number, or missing.
-#[derive(Drop)]
+#[derive(Clone, Copy)]
 pub enum Optional {
     Value(u32),
     Missing,
 }
 
 // A name in a body: where its first byte stands, and how many it has.
-#[derive(Drop)]
+#[derive(Clone, Copy)]
 pub struct Name {
     pub at: usize,
     pub len: usize,
 }
 
 // An optional name.
-#[derive(Drop)]
+#[derive(Clone, Copy)]
 pub enum Naming {
     Value(Name),
     Missing,

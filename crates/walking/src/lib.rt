@@ -12,14 +12,14 @@ use order::Place;
 pub use steps::{stage_of, standing_of, walk};
 
 // Why a walk stopped at a record: it was refused, or is longer than its caller takes.
-#[derive(Drop)]
+#[derive(Clone, Copy)]
 pub enum Stop {
     Refused(Answer),
     TooLong,
 }
 
 // What has become of a stream.
-#[derive(Drop)]
+#[derive(Clone, Copy)]
 pub enum Fate {
     Going,
     Stopped(Stop),
@@ -29,7 +29,7 @@ pub enum Fate {
 // next record begins, or the one that stopped the walk, and `more` whether it is to be looked at. The session's
 // standing is held field by field: copied whole, with the unused bytes between its fields, it costs more than all else
 // that is done for a record.
-#[derive(Drop)]
+#[derive(Clone, Copy)]
 pub struct Stage {
     pub used: usize,
     pub place: Place,

@@ -1,0 +1,68 @@
+-- `calls::open_slot` meets its contract: each return is one case of its definition.
+-- Assumes nothing.
+use mathlib.Core.Path.{◌≡◌, sym, subst, ◌∙◌}
+use mathlib.Core.Bool.{true, false, not}
+use Prim.Native.Nat.{ℕ, ◌-◌, ◌≤◌, ◌<◌}
+use native.Mathlib.Omega.{arith}
+use borrow.Author.Tests.{not-true, not-false}
+use Rattle.house.specs.declared.House.{House}
+use Rattle.house.specs.declared.Soundness.{Soundness}
+use Rattle.house.specs.House.{sound, soundness, promised}
+use Rattle.house.proofs.Laws.{told_sound, told_unsound, told_promised}
+use Rattle.house.proofs.Calling.{told_within, told_rooms, open_unsound, open_no_slot, open_high, open_taken}
+use Rattle.house.proofs.Calling.{open_no_room, open_done}
+use Rattle.calls.proofs.open_slot.Goals as goal
+
+-- what the test of the house told
+module _ (house : House) (told : Soundness) (is : told ≡ soundness house) (fine : not told.sound ≡ false) where
+  sounded : sound house ≡ true
+  sounded = told_sound _ _ is (not-false told.sound fine)
+
+  owed : told.promised ≡ promised house
+  owed = told_promised _ _ is (not-false told.sound fine)
+
+pub returns-then-not-told : goal.returns-then-not-told
+returns-then-not-told c =
+    c.answer_with.ensures
+    ∙ sym (open_unsound _ _ _ (told_unsound _ _ c.soundness_of-told.ensures (not-true _ c.if-not-told.true)))
+
+pub returns-then-i-ge-SLOTS : goal.returns-then-i-ge-SLOTS
+returns-then-i-ge-SLOTS c = c.answer_with-then-i-ge-SLOTS.ensures ∙ sym (open_no_slot _ _ _ (sounded c.args.house _ c.soundness_of-told.ensures c.if-not-told.false) c.if-i-ge-SLOTS.true)
+
+pub returns-then-floor-gt-ROWS : goal.returns-then-floor-gt-ROWS
+returns-then-floor-gt-ROWS c =
+    c.answer_with-then-floor-gt-ROWS.ensures
+    ∙ sym (open_high _ _ _ (sounded c.args.house _ c.soundness_of-told.ensures c.if-not-told.false) c.if-i-ge-SLOTS.false c.if-floor-gt-ROWS.true)
+
+pub overflow_sub-free : goal.overflow_sub-free
+overflow_sub-free c = omega (arith, told_within _ (sounded c.args.house _ c.soundness_of-told.ensures c.if-not-told.false))
+
+pub overflow_cast-free : goal.overflow_cast-free
+overflow_cast-free c = record { fits = omega (arith, told_within _ (sounded c.args.house _ c.soundness_of-told.ensures c.if-not-told.false)) }
+
+pub overflow_sub-spare : goal.overflow_sub-spare
+overflow_sub-spare c =
+    omega (arith, told_rooms _ (sounded c.args.house _ c.soundness_of-told.ensures c.if-not-told.false), owed c.args.house _ c.soundness_of-told.ensures c.if-not-told.false)
+
+pub returns-then-s : goal.returns-then-s
+returns-then-s c =
+    c.answer_with-then-s.ensures
+    ∙ sym (open_taken _ _ _ (sounded c.args.house _ c.soundness_of-told.ensures c.if-not-told.false) c.if-i-ge-SLOTS.false c.if-floor-gt-ROWS.false
+    c.if-s.true)
+
+pub returns-then-spare-floor : goal.returns-then-spare-floor
+returns-then-spare-floor c =
+    let a = c.args in
+    c.answer_with-then-spare-floor.ensures
+    ∙ sym
+    (open_no_room _ _ _ (sounded c.args.house _ c.soundness_of-told.ensures c.if-not-told.false) c.if-i-ge-SLOTS.false c.if-floor-gt-ROWS.false c.if-s.false
+    (subst (λ (n : ℕ). 1024 - a.house.used - n < a.floor) (owed c.args.house _ c.soundness_of-told.ensures c.if-not-told.false) c.if-spare-floor.true))
+
+pub returns : goal.returns
+returns c =
+    let a = c.args in
+    c.answer_with-2.ensures
+    ∙ sym
+    (open_done _ _ _ (sounded c.args.house _ c.soundness_of-told.ensures c.if-not-told.false) c.if-i-ge-SLOTS.false c.if-floor-gt-ROWS.false c.if-s.false
+    (subst (λ (n : ℕ). a.floor ≤ 1024 - a.house.used - n) (owed c.args.house _ c.soundness_of-told.ensures c.if-not-told.false) c.if-spare-floor.false) _
+    c.opened.ensures)

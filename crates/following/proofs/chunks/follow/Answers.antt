@@ -1,0 +1,7 @@
+-- `following::chunks::follow` meets its contract: a stream that goes on is followed, one that has stopped stays so.
+-- Assumes nothing.
+use Rattle.following.proofs.Carry.{stopped_stays}
+use Rattle.following.proofs.chunks.follow.Goals as goal
+
+pub returns-in-Stopped : goal.returns-in-Stopped
+returns-in-Stopped c = stopped_stays _ _ _ c.requires.0 _ c.in-Stopped.is

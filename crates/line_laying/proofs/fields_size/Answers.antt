@@ -1,0 +1,32 @@
+-- `line_laying::fields_size` meets its contract: what is passed and what is left make up the whole.
+-- Assumes nothing.
+use mathlib.Core.Path.{ap}
+use native.Mathlib.Omega.{arith}
+use lib.ListN.{length}
+use Rattle.line_layouts.proofs.Laid.{rest_length, most_columns_lem, rest_ends}
+use Rattle.line_laying.proofs.fields_size.Goals as goal
+
+pub loop-j-init : goal.loop-j-init
+loop-j-init c = (omega arith, omega arith, omega arith)
+
+pub nth_size-size-requires : goal.nth_size-size-requires
+nth_size-size-requires c =
+    record { there = c.requires.0; before = omega arith; few = c.requires.1 }
+
+pub overflow_add-size : goal.overflow_add-size
+overflow_add-size c =
+    omega (arith, c.requires.1, most_columns_lem c.args.line.tag, c.nth_size-size.ensures.1)
+
+pub loop-j-preserved : goal.loop-j-preserved
+loop-j-preserved c =
+    let a = c.args in
+    let on = rest_length a.source.now a.line c.requires.0.full a.layout c.loop-j.j a.n
+    (omega arith) c.requires.1 in
+    (omega arith, omega (arith, c.nth_size-size.ensures.1), omega (arith, c.nth_size-size.ensures.0, on, c.loop-j.invariant.2))
+
+pub returns : goal.returns
+returns c =
+    let a = c.args in
+    let none = ap length (rest_ends a.source.now a.line c.requires.0.full a.layout c.loop-j.j a.n
+    (omega arith)) in
+    (omega (arith, none, c.loop-j.invariant.2), omega arith)

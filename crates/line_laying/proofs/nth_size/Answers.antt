@@ -1,0 +1,60 @@
+-- `line_laying::nth_size` meets its contract: field j by its column, in either layout.
+-- Assumes nothing.
+use Prim.Native.Nat.{◌+◌}
+use native.Mathlib.Omega.{arith}
+use lib.Dec.{eqb}
+use Rattle.line_layouts.specs.Entries.{entry_of}
+use Rattle.line_layouts.specs.Layouts.{nth_bytes}
+use Rattle.line_layouts.proofs.Laid.{most_columns_lem, column_inside, marked_size}
+use Rattle.line_laying.proofs.nth_size.Goals as goal
+
+pub column_of-i-requires : goal.column_of-i-requires
+column_of-i-requires c = omega (arith, c.requires.before, c.requires.few)
+
+pub said_at-said-requires : goal.said_at-said-requires
+said_at-said-requires c =
+    let a = c.args in
+    omega (
+      arith,
+      c.column_of-i.ensures,
+      column_inside a.layout a.line.tag a.j (omega (arith, c.requires.before, c.requires.few)),
+      most_columns_lem a.line.tag,
+    )
+
+pub column_at-column-requires : goal.column_at-column-requires
+column_at-column-requires c =
+    let a = c.args in
+    rw c.column_of-i.ensures
+    (column_inside a.layout a.line.tag a.j (omega (arith, c.requires.before, c.requires.few)))
+
+pub entry_size-requires : goal.entry_size-requires
+entry_size-requires c =
+    rw c.said_at-said.ensures
+    (c.requires.there.within c.column_of-i.result)
+
+pub stored_size-requires : goal.stored_size-requires
+stored_size-requires c =
+    rw c.said_at-said.ensures
+    (c.requires.there.within c.column_of-i.result)
+
+pub returns-in-Text : goal.returns-in-Text
+unfolding nth_bytes
+returns-in-Text c =
+    let a = c.args in
+    let is = c.said_at-said in
+    let at = c.column_at-column in
+    let e = entry_of a.source.now is.result in
+    rw (← c.column_of-i.ensures, ← is.ensures, ← at.ensures)
+    (rw c.in-Text.is (
+      marked_size _ at.result.0 e (eqb (a.j + 1) a.n) c.entry_size.ensures.0,
+      omega arith,
+    ))
+
+pub returns-in-Record : goal.returns-in-Record
+unfolding nth_bytes
+returns-in-Record c =
+    rw (
+      ← c.column_of-i.ensures,
+      ← c.said_at-said.ensures,
+      ← c.column_at-column.ensures,
+    ) (rw c.in-Record.is c.stored_size.ensures)

@@ -1,0 +1,82 @@
+-- `line_laying::place` meets its contract: refused where the whole does not fit, else written at its offset.
+-- Assumes nothing.
+use mathlib.Core.Path.{◌≡◌}
+use Prim.Native.Nat.{◌+◌, ◌≤◌}
+use native.Mathlib.Omega.{arith}
+use lib.ListN.{length}
+use Rattle.output.proofs.Laws.{place_short, place_room, place_done}
+use Rattle.line_layouts.specs.Entries.{meaning_of}
+use Rattle.line_layouts.specs.Layouts.{Sized, laid_out}
+use Rattle.line_layouts.proofs.Laid.{laid_size, most_columns_lem}
+use Rattle.line_laying.proofs.place.Goals as goal
+
+pub returns-then-out-at : goal.returns-then-out-at
+returns-then-out-at c =
+    let a = c.args in
+    place_short (laid_out a.layout (meaning_of a.source.now a.line)) a.out.now a.at (omega arith)
+
+pub overflow_add-size : goal.overflow_add-size
+overflow_add-size c =
+    let small : c.fields_size-size.result ≤ 3584 =
+    let p = c.present_count-n.ensures.few in
+    omega (arith, p, most_columns_lem c.args.line.tag, c.fields_size-size.ensures.1) in
+    record { fits = omega (arith, small) }
+
+pub returns-then-out-at-2 : goal.returns-then-out-at-2
+returns-then-out-at-2 c =
+    let sized : Sized c.args.layout c.args.source.now c.args.line c.present_count-n.result c.fields_size-size.result =
+    record {
+      there = c.requires;
+      stops = c.present_count-n.ensures;
+      is = c.fields_size-size.ensures.0;
+    } in
+    let total : length (laid_out c.args.layout (meaning_of c.args.source.now c.args.line)) ≡ c.fields_size-size.result + 4 =
+    let a = c.args in
+    laid_size a.layout a.source.now a.line c.present_count-n.result c.fields_size-size.result
+    sized in
+    let a = c.args in
+    place_short (laid_out a.layout (meaning_of a.source.now a.line)) a.out.now a.at
+    (omega (arith, total))
+
+pub overflow_cast-size : goal.overflow_cast-size
+overflow_cast-size c =
+    let small : c.fields_size-size.result ≤ 3584 =
+    let p = c.present_count-n.ensures.few in
+    omega (arith, p, most_columns_lem c.args.line.tag, c.fields_size-size.ensures.1) in
+    record { fits = omega (arith, small) }
+
+pub put_all-k-requires : goal.put_all-k-requires
+put_all-k-requires c =
+    let sized : Sized c.args.layout c.args.source.now c.args.line c.present_count-n.result c.fields_size-size.result =
+    record {
+      there = c.requires;
+      stops = c.present_count-n.ensures;
+      is = c.fields_size-size.ensures.0;
+    } in
+    let total : length (laid_out c.args.layout (meaning_of c.args.source.now c.args.line)) ≡ c.fields_size-size.result + 4 =
+    let a = c.args in
+    laid_size a.layout a.source.now a.line c.present_count-n.result c.fields_size-size.result
+    sized in
+    let a = c.args in (
+      sized,
+      place_room (laid_out a.layout (meaning_of a.source.now a.line)) a.out.now a.at
+          (omega (arith, total)),
+    )
+
+pub returns : goal.returns
+returns c =
+    let sized : Sized c.args.layout c.args.source.now c.args.line c.present_count-n.result c.fields_size-size.result =
+    record {
+      there = c.requires;
+      stops = c.present_count-n.ensures;
+      is = c.fields_size-size.ensures.0;
+    } in
+    let total : length (laid_out c.args.layout (meaning_of c.args.source.now c.args.line)) ≡ c.fields_size-size.result + 4 =
+    let a = c.args in
+    laid_size a.layout a.source.now a.line c.present_count-n.result c.fields_size-size.result
+    sized in
+    let a = c.args in
+    let q = c.put_all-k in
+    place_done (laid_out a.layout (meaning_of a.source.now a.line)) a.out.now a.at
+    (omega (arith, total))
+    q.result q.new.out q.ensures

@@ -1,0 +1,22 @@
+-- `line_layouts::columns::width_of` meets its contract: each arm is one type.
+-- Assumes nothing.
+use native.Mathlib.Omega.{arith}
+use Rattle.line_layouts.proofs.columns.width_of.Goals as goal
+
+pub returns-in-U1 : goal.returns-in-U1
+returns-in-U1 c = (rw c.in-U1.is, omega arith)
+
+pub returns-in-U2 : goal.returns-in-U2
+returns-in-U2 c = (rw c.in-U2.is, omega arith)
+
+pub returns-in-U4 : goal.returns-in-U4
+returns-in-U4 c = (rw c.in-U4.is, omega arith)
+
+pub returns-in-Time : goal.returns-in-Time
+returns-in-Time c = (rw c.in-Time.is, omega arith)
+
+pub returns-in-C1 : goal.returns-in-C1
+returns-in-C1 c = (rw c.in-C1.is, omega arith)
+
+pub returns-in-Cn : goal.returns-in-Cn
+returns-in-Cn c = (rw c.in-Cn.is, omega arith)

@@ -1,0 +1,111 @@
+-- `line_records::walking::walk` meets its contract: the fields read, then the walk to come behind them, are the
+-- whole walk.
+-- Assumes nothing.
+use mathlib.Core.Path.{◌≡◌, refl, ap}
+use Prim.Native.Nat.{◌<◌}
+use native.Mathlib.Omega.{arith}
+use lib.ListN.{length, get_or, length-set}
+use Rattle.answers.specs.declared.Answer.TheVariants.{BodyMisfit}
+use Rattle.line_layouts.specs.declared.Field.{Field}
+use Rattle.line_layouts.specs.Columns.{columns, bar, no_column}
+use Rattle.line_layouts.proofs.Laid.{most_columns_lem}
+use Rattle.line_layouts.proofs.Fills.{within_none, within_set}
+use Rattle.line_layouts.proofs.Faults.{held_refused}
+use Rattle.line_records.specs.Walks.{meant}
+use Rattle.line_records.specs.Records.{body_means}
+use Rattle.line_records.specs.Places.{hidden_said, line_at}
+use Rattle.line_records.proofs.Places.{filled_first, filled_misfit, filled_on, filled_done}
+use Rattle.line_records.proofs.Places.{filled_over, within_hidden}
+use Rattle.line_records.proofs.Placing.{placing_first, placing_on, placing_done}
+use Rattle.line_records.proofs.Judges.{held_said, short_column}
+use Rattle.line_records.proofs.walking.walk.Goals as goal
+
+pub loop-j-init : goal.loop-j-init
+loop-j-init c =
+    let a = c.args in (
+      omega arith,
+      omega arith,
+      refl,
+      within_none a.s.now,
+      filled_first (bar a.tag) a.order (columns a.tag) a.s.now _,
+      placing_first a.order (columns a.tag) a.s.now,
+    )
+
+pub column_at-column-requires : goal.column_at-column-requires
+column_at-column-requires c = omega (arith, c.column_count-count.ensures.0)
+
+pub step_at-step-requires : goal.step_at-step-requires
+step_at-step-requires c = c.loop-j.invariant.1
+
+pub returns-in_default : goal.returns-in_default
+returns-in_default c =
+    let a = c.args in
+    let s = a.s.now in
+    let g = rw (c.in_default.is, c.column_at-column.ensures, c.bar_of-bar.ensures)
+    at c.step_at-step.ensures in
+    rw c.refused_line.ensures
+    (held_refused s (line_at a.order a.tag s) (body_means a.tag (meant a.order a.tag s)) BodyMisfit
+    (ap (body_means a.tag)
+    (filled_misfit (bar a.tag) a.order (columns a.tag) s c.loop-j.fields c.loop-j.at c.loop-j.gone
+    c.loop-j.j c.loop-j.invariant.4 (omega
+    (arith, c.loop-j-test.true, c.column_count-count.ensures.0)) g)))
+
+pub offset_bounds-fields-j : goal.offset_bounds-fields-j
+offset_bounds-fields-j c =
+    omega (arith, c.loop-j-test.true, c.column_count-count.ensures.1)
+
+pub bounds-fields-j : goal.bounds-fields-j
+bounds-fields-j c =
+    omega (arith, c.loop-j-test.true, c.column_count-count.ensures.1)
+
+pub loop-j-preserved : goal.loop-j-preserved
+loop-j-preserved c =
+    let a = c.args in
+    let s = a.s.now in
+    let j = c.loop-j.j in
+    let f = c.in-Says.found in
+    let col = get_or (columns a.tag) j no_column in
+    let count = c.column_count-count.ensures in
+    let inside : j < length (columns a.tag) = omega (arith, c.loop-j-test.true, count.0) in
+    let room : j < length c.loop-j.fields = omega (arith, c.loop-j-test.true, count.1, c.loop-j.invariant.2) in
+    let g = rw (c.in-Says.is, c.column_at-column.ensures, c.bar_of-bar.ensures) at
+    c.step_at-step.ensures in
+    let is : c.hide-said.result ≡ hidden_said col c.loop-j.gone f = rw c.column_at-column.ensures at
+    c.hide-said.ensures in
+    let field : Field = record { said = hidden_said col c.loop-j.gone f } in (
+      omega (arith, c.loop-j-test.true),
+      g.1,
+      simp length-set c.loop-j.invariant.2,
+      rw is (within_set s c.loop-j.fields j field room c.loop-j.invariant.3
+          (within_hidden s col c.loop-j.gone f (g.2 (short_column a.tag j inside)))),
+      rw (c.is_missing-gone.ensures, is)
+          (filled_on (bar a.tag) a.order (columns a.tag) s c.loop-j.fields c.loop-j.at c.loop-j.gone j
+          c.loop-j.invariant.4 inside f c.in-Says.next room g),
+      rw (c.is_missing-gone.ensures, is)
+          (placing_on a.order (columns a.tag) s c.loop-j.fields c.loop-j.at c.loop-j.gone j c.loop-j.invariant.5
+          inside f c.in-Says.next g.3 g.4 room),
+    )
+
+pub returns-then-at-s : goal.returns-then-at-s
+returns-then-at-s c =
+    let a = c.args in
+    let s = a.s.now in
+    rw c.refused_line-then-at-s.ensures
+    (held_refused s (line_at a.order a.tag s) (body_means a.tag (meant a.order a.tag s)) BodyMisfit
+    (ap (body_means a.tag)
+    (filled_over (bar a.tag) a.order (columns a.tag) s c.loop-j.fields c.loop-j.at c.loop-j.gone
+    c.loop-j.j c.loop-j.invariant.4 (omega (arith, c.loop-j-test.false, c.column_count-count.ensures.0))
+    c.if-at-s.true)))
+
+pub returns : goal.returns
+returns c =
+    let a = c.args in
+    let s = a.s.now in
+    let count = c.column_count-count.ensures.0 in
+    rw c.said_line.ensures
+    (held_said a.order a.tag s c.loop-j.fields c.loop-j.j
+    (omega (arith, c.loop-j-test.false, c.loop-j.invariant.0, count)) c.loop-j.invariant.2 c.loop-j.invariant.3
+    (filled_done (bar a.tag) a.order (columns a.tag) s c.loop-j.fields c.loop-j.at c.loop-j.gone
+    c.loop-j.j c.loop-j.invariant.4 (omega (arith, c.loop-j-test.false, count)) c.if-at-s.false)
+    (placing_done a.order (columns a.tag) s c.loop-j.fields c.loop-j.at c.loop-j.gone c.loop-j.j
+    c.loop-j.invariant.5 (omega (arith, c.loop-j-test.false, count)) (most_columns_lem a.tag) c.loop-j.invariant.2))

@@ -1,0 +1,16 @@
+-- `lines::writing::line_allowed` meets its contract: the entries passed are allowed.
+-- Assumes nothing.
+use mathlib.Core.Path.{◌≡◌}
+use Prim.Native.Nat.{◌-◌, ◌≤◌}
+use lib.ListN.{drop}
+use Rattle.prelude.specs.Each.{each}
+use Rattle.line_layouts.specs.Entries.{entries_of}
+use Rattle.line_layouts.specs.Names.{entry_allowed}
+use Rattle.lines.proofs.writing.line_allowed.Given as goal
+
+abbrev pub invariant-loop-j : goal.invariant-loop-j
+invariant-loop-j l = (l.j ≤ l.count) × (each (entry_allowed l.sep) (entries_of l.source l.line) ≡ each (entry_allowed l.sep) (drop l.j
+    (entries_of l.source l.line)))
+
+abbrev pub decreases-loop-j : goal.decreases-loop-j
+decreases-loop-j l = l.count - l.j

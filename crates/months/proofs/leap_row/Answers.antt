@@ -1,0 +1,23 @@
+-- `months::leap_row` meets its contract: each return is one case of `leap_row`.
+-- Assumes nothing.
+use native.Mathlib.Omega.{arith}
+use borrow.Author.Tests.{eq-eqb, ne_eqb}
+use Rattle.months.proofs.leap_row.Goals as goal
+
+pub returns-then-year-eq0 : goal.returns-then-year-eq0
+returns-then-year-eq0 c = (simp (eq-eqb _ _ c.if-year-eq0.true), omega arith)
+
+pub returns-then-year-eq0-2 : goal.returns-then-year-eq0-2
+returns-then-year-eq0-2 c = (simp (ne_eqb _ _ c.if-year-eq0.false, eq-eqb _ _ c.if-year-eq0-2.true), omega arith)
+
+pub returns-then-year-eq0-3 : goal.returns-then-year-eq0-3
+returns-then-year-eq0-3 c = (
+  simp (ne_eqb _ _ c.if-year-eq0.false, ne_eqb _ _ c.if-year-eq0-2.false, eq-eqb _ _ c.if-year-eq0-3.true),
+  omega arith,
+)
+
+pub returns : goal.returns
+returns c = (
+  simp (ne_eqb _ _ c.if-year-eq0.false, ne_eqb _ _ c.if-year-eq0-2.false, ne_eqb _ _ c.if-year-eq0-3.false),
+  omega arith,
+)

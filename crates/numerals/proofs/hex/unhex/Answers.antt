@@ -1,0 +1,68 @@
+-- `numerals::hex::unhex` meets its contract: at each turn the first bytes are laid over the line, and what is still to be
+-- read stands behind them.
+-- Assumes nothing.
+use mathlib.Core.Path.{◌≡◌, refl, ◌∙◌}
+use Prim.Native.Nat.{◌-◌, ◌/◌}
+use native.Mathlib.Omega.{arith}
+use lib.ListN.{length, drop, length-set, length-drop}
+use Rattle.numerals.proofs.HexLaws.{bytes_half, laid_byte, laid_all}
+use Rattle.numerals.proofs.hex.unhex.Goals as goal
+
+pub loop-i-init : goal.loop-i-init
+loop-i-init c = (omega arith, refl, c.half-n.ensures.0, omega arith, refl)
+
+pub loop-i-preserved : goal.loop-i-preserved
+loop-i-preserved c =
+    let a = c.args in (
+      omega arith,
+      simp length-set c.loop-i.invariant.1,
+      c.loop-i.invariant.2,
+      c.loop-i.invariant.3,
+      laid_byte a.line.now a.from c.loop-i.invariant.3 c.loop-i.i (omega arith) c.loop-i.line
+          c.byte_of.result c.loop-i.invariant.4 c.byte_of.ensures,
+    )
+
+pub returns : goal.returns
+returns c =
+    let line = c.args.line.now in
+    let from = c.args.from in
+    let all : c.loop-i.i ≡ (length line - from) / 2 = omega (arith, c.loop-i.invariant.2) in (
+      record {
+        count = omega (arith, bytes_half (drop from line), length-drop from line);
+        laid = c.loop-i.invariant.4 ∙ laid_all line from c.loop-i.invariant.3 c.loop-i.i all;
+      },
+      omega arith,
+    )
+
+pub overflow_sub-line : goal.overflow_sub-line
+overflow_sub-line c = omega arith
+
+pub half-n-requires : goal.half-n-requires
+half-n-requires c = tt
+
+pub overflow_mul-at : goal.overflow_mul-at
+overflow_mul-at c = omega arith
+
+pub overflow_add-at : goal.overflow_add-at
+overflow_add-at c = omega arith
+
+pub bounds-line-at : goal.bounds-line-at
+bounds-line-at c = omega arith
+
+pub overflow_add-at-in-loop-i : goal.overflow_add-at-in-loop-i
+overflow_add-at-in-loop-i c = omega arith
+
+pub bounds-line-at-in-loop-i : goal.bounds-line-at-in-loop-i
+bounds-line-at-in-loop-i c = omega arith
+
+pub byte_of-requires : goal.byte_of-requires
+byte_of-requires c = tt
+
+pub bounds-line-i : goal.bounds-line-i
+bounds-line-i c = omega arith
+
+pub overflow_add-i : goal.overflow_add-i
+overflow_add-i c = omega arith
+
+pub loop-i-smaller : goal.loop-i-smaller
+loop-i-smaller c = omega arith

@@ -1,0 +1,38 @@
+-- `requests::cutting::find` meets its contract: each return is one case of `asked`.
+-- Assumes nothing.
+use mathlib.Core.Path.{refl, sym, ◌∙◌}
+use native.Mathlib.Omega.{arith}
+use Rattle.requests.proofs.CutLaws.{asked_nothing, asked_comment, asked_words, hands_none, hands_some}
+use Rattle.requests.proofs.cutting.find.Goals as goal
+
+pub returns-then-end-eq0 : goal.returns-then-end-eq0
+returns-then-end-eq0 c =
+    let line = c.args.line.now in
+    hands_none line _ (asked_nothing line c.if-end-eq0.true) _ refl refl
+
+pub returns-then-line-eq35 : goal.returns-then-line-eq35
+returns-then-line-eq35 c =
+    let line = c.args.line.now in
+    hands_none line _ (asked_comment line (omega arith) c.if-line-eq35.true) _ refl refl
+
+pub returns-then-hands_over : goal.returns-then-hands_over
+returns-then-hands_over c =
+    let line = c.args.line.now in
+    let over = sym c.hands_over.ensures ∙ c.if-hands_over.true in
+    hands_some line _ (c.cut_line-cut.ensures.asks_for ∙ asked_words line (omega arith) c.if-line-eq35.false) _
+    c.cut_line-cut.ensures.within (c.cut_line-cut.ensures.hex over) over
+
+pub returns : goal.returns
+returns c =
+    let line = c.args.line.now in
+    hands_none line _ (c.cut_line-cut.ensures.asks_for ∙ asked_words line (omega arith) c.if-line-eq35.false) _
+    refl (sym c.hands_over.ensures ∙ c.if-hands_over.false)
+
+pub bounds-line-0 : goal.bounds-line-0
+bounds-line-0 c = omega arith
+
+pub cut_line-cut-requires : goal.cut_line-cut-requires
+cut_line-cut-requires c = tt
+
+pub hands_over-requires : goal.hands_over-requires
+hands_over-requires c = tt

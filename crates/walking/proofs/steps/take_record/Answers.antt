@@ -1,0 +1,32 @@
+-- `walking::steps::take_record` meets its contract: the delivery is that of the lent core, accepted or refused.
+-- Assumes nothing.
+use mathlib.Core.Path.{sym, ◌∙◌}
+use native.Mathlib.Omega.{arith}
+use Rattle.numbers.specs.Laws.{Bytes}
+use Rattle.walking.specs.Walking.{rest, stage_standing}
+use Rattle.walking.proofs.Stepping.{lent_step, step_accepted, step_refused}
+use Rattle.cutting.proofs.Cuts.{needed_some}
+use Rattle.walking.proofs.steps.take_record.Goals as goal
+
+pub deliver_lent-d-requires : goal.deliver_lent-d-requires
+deliver_lent-d-requires c =
+    lent_step _ _ _ _ _ _ _ c.requires.walkable.0 c.requires.walkable.1 c.standing_of.ensures
+
+pub overflow_add-result : goal.overflow_add-result
+overflow_add-result c =
+    let some = needed_some (stage_standing c.args.s) (rest c.args.s c.args.bytes.now) in
+    omega (arith, c.requires.walkable.0.countable, c.requires.n_value.0, c.requires.n_value.2, some)
+
+pub returns-then-number-eq0 : goal.returns-then-number-eq0
+returns-then-number-eq0 c =
+    let range : Bytes c.args.bytes.now = λ k. omega (arith, c.shared_slice_known-1.given k) in
+    step_accepted _ _ _ _ _ _ _ c.requires.walkable.0 c.requires.walkable.1 _ c.requires.n_value.0 c.requires.n_value.1 c.requires.n_value.2 range
+    c.standing_of.ensures _ _ _ _ _ _ c.deliver_lent-d.ensures.0
+    (sym c.number.ensures ∙ c.if-number-eq0.true)
+
+pub returns : goal.returns
+returns c =
+    let range : Bytes c.args.bytes.now = λ k. omega (arith, c.shared_slice_known-1.given k) in
+    step_refused _ _ _ _ _ _ _ c.requires.walkable.0 c.requires.walkable.1 _ c.requires.n_value.0 c.requires.n_value.1 c.requires.n_value.2 range
+    c.standing_of.ensures _ _ _ _ _ _ c.deliver_lent-d.ensures.0
+    (λ e. c.if-number-eq0.false (c.number.ensures ∙ e)) c.stage_of.ensures
