@@ -14,24 +14,29 @@ returns-then-not-is_sound c =
     ∙ sym (close_unsound _ _ (sym c.is_sound.ensures ∙ c.if-not-is_sound.true))
 
 pub returns-then-i-ge-SLOTS : goal.returns-then-i-ge-SLOTS
-returns-then-i-ge-SLOTS c = c.answer_with-then-i-ge-SLOTS.ensures ∙ sym (close_no_slot _ _ (sym c.is_sound.ensures ∙ c.if-not-is_sound.false) c.if-i-ge-SLOTS.true)
+returns-then-i-ge-SLOTS c =
+    let fine = sym c.is_sound.ensures ∙ c.if-not-is_sound.false in
+    c.answer_with-then-i-ge-SLOTS.ensures ∙ sym (close_no_slot _ _ fine c.if-i-ge-SLOTS.true)
 
 pub returns-then-not-s : goal.returns-then-not-s
 returns-then-not-s c =
+    let fine = sym c.is_sound.ensures ∙ c.if-not-is_sound.false in
     c.answer_with-then-not-s.ensures
-    ∙ sym (close_shut _ _ (sym c.is_sound.ensures ∙ c.if-not-is_sound.false)
+    ∙ sym (close_shut _ _ fine
     c.if-i-ge-SLOTS.false (not-true _ c.if-not-s.true))
 
 pub drop_slot-used-requires : goal.drop_slot-used-requires
-drop_slot-used-requires c = (
-  omega (arith, c.if-i-ge-SLOTS.false),
-  lent_kept _ _ _ (told_lent c.args.house (sym c.is_sound.ensures ∙ c.if-not-is_sound.false) (search rules)
-      (search rules)),
-)
+drop_slot-used-requires c =
+    let fine = sym c.is_sound.ensures ∙ c.if-not-is_sound.false in (
+      omega (arith, c.if-i-ge-SLOTS.false),
+      lent_kept _ _ _ (told_lent c.args.house fine (search rules)
+          (search rules)),
+    )
 
 pub returns : goal.returns
 returns c =
+    let fine = sym c.is_sound.ensures ∙ c.if-not-is_sound.false in
     c.answer_with-2.ensures
     ∙ sym
-    (close_done _ _ (sym c.is_sound.ensures ∙ c.if-not-is_sound.false) c.if-i-ge-SLOTS.false (not-false _ c.if-not-s.false) _ _ _ _
+    (close_done _ _ fine c.if-i-ge-SLOTS.false (not-false _ c.if-not-s.false) _ _ _ _
     c.drop_slot-used.ensures c.closed-none.ensures)

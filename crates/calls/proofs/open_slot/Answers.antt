@@ -27,42 +27,56 @@ returns-then-not-told c =
     ∙ sym (open_unsound _ _ _ (told_unsound _ _ c.soundness_of-told.ensures (not-true _ c.if-not-told.true)))
 
 pub returns-then-i-ge-SLOTS : goal.returns-then-i-ge-SLOTS
-returns-then-i-ge-SLOTS c = c.answer_with-then-i-ge-SLOTS.ensures ∙ sym (open_no_slot _ _ _ (sounded c.args.house _ c.soundness_of-told.ensures c.if-not-told.false) c.if-i-ge-SLOTS.true)
+returns-then-i-ge-SLOTS c =
+    let fine = sounded c.args.house _ c.soundness_of-told.ensures c.if-not-told.false in
+    c.answer_with-then-i-ge-SLOTS.ensures ∙ sym (open_no_slot _ _ _ fine c.if-i-ge-SLOTS.true)
 
 pub returns-then-floor-gt-ROWS : goal.returns-then-floor-gt-ROWS
 returns-then-floor-gt-ROWS c =
+    let fine = sounded c.args.house _ c.soundness_of-told.ensures c.if-not-told.false in
     c.answer_with-then-floor-gt-ROWS.ensures
-    ∙ sym (open_high _ _ _ (sounded c.args.house _ c.soundness_of-told.ensures c.if-not-told.false) c.if-i-ge-SLOTS.false c.if-floor-gt-ROWS.true)
+    ∙ sym (open_high _ _ _ fine c.if-i-ge-SLOTS.false c.if-floor-gt-ROWS.true)
 
 pub overflow_sub-free : goal.overflow_sub-free
-overflow_sub-free c = omega (arith, told_within _ (sounded c.args.house _ c.soundness_of-told.ensures c.if-not-told.false))
+overflow_sub-free c =
+    let fine = sounded c.args.house _ c.soundness_of-told.ensures c.if-not-told.false in
+    omega (arith, told_within _ fine)
 
 pub overflow_cast-free : goal.overflow_cast-free
-overflow_cast-free c = record { fits = omega (arith, told_within _ (sounded c.args.house _ c.soundness_of-told.ensures c.if-not-told.false)) }
+overflow_cast-free c =
+    let fine = sounded c.args.house _ c.soundness_of-told.ensures c.if-not-told.false in
+    record { fits = omega (arith, told_within _ fine) }
 
 pub overflow_sub-spare : goal.overflow_sub-spare
 overflow_sub-spare c =
-    omega (arith, told_rooms _ (sounded c.args.house _ c.soundness_of-told.ensures c.if-not-told.false), owed c.args.house _ c.soundness_of-told.ensures c.if-not-told.false)
+    let fine = sounded c.args.house _ c.soundness_of-told.ensures c.if-not-told.false in
+    let owing = owed c.args.house _ c.soundness_of-told.ensures c.if-not-told.false in
+    omega (arith, told_rooms _ fine, owing)
 
 pub returns-then-s : goal.returns-then-s
 returns-then-s c =
+    let fine = sounded c.args.house _ c.soundness_of-told.ensures c.if-not-told.false in
     c.answer_with-then-s.ensures
-    ∙ sym (open_taken _ _ _ (sounded c.args.house _ c.soundness_of-told.ensures c.if-not-told.false) c.if-i-ge-SLOTS.false c.if-floor-gt-ROWS.false
+    ∙ sym (open_taken _ _ _ fine c.if-i-ge-SLOTS.false c.if-floor-gt-ROWS.false
     c.if-s.true)
 
 pub returns-then-spare-floor : goal.returns-then-spare-floor
 returns-then-spare-floor c =
+    let fine = sounded c.args.house _ c.soundness_of-told.ensures c.if-not-told.false in
+    let owing = owed c.args.house _ c.soundness_of-told.ensures c.if-not-told.false in
     let a = c.args in
     c.answer_with-then-spare-floor.ensures
     ∙ sym
-    (open_no_room _ _ _ (sounded c.args.house _ c.soundness_of-told.ensures c.if-not-told.false) c.if-i-ge-SLOTS.false c.if-floor-gt-ROWS.false c.if-s.false
-    (subst (λ (n : ℕ). 1024 - a.house.used - n < a.floor) (owed c.args.house _ c.soundness_of-told.ensures c.if-not-told.false) c.if-spare-floor.true))
+    (open_no_room _ _ _ fine c.if-i-ge-SLOTS.false c.if-floor-gt-ROWS.false c.if-s.false
+    (subst (λ (n : ℕ). 1024 - a.house.used - n < a.floor) owing c.if-spare-floor.true))
 
 pub returns : goal.returns
 returns c =
+    let fine = sounded c.args.house _ c.soundness_of-told.ensures c.if-not-told.false in
+    let owing = owed c.args.house _ c.soundness_of-told.ensures c.if-not-told.false in
     let a = c.args in
     c.answer_with-2.ensures
     ∙ sym
-    (open_done _ _ _ (sounded c.args.house _ c.soundness_of-told.ensures c.if-not-told.false) c.if-i-ge-SLOTS.false c.if-floor-gt-ROWS.false c.if-s.false
-    (subst (λ (n : ℕ). a.floor ≤ 1024 - a.house.used - n) (owed c.args.house _ c.soundness_of-told.ensures c.if-not-told.false) c.if-spare-floor.false) _
+    (open_done _ _ _ fine c.if-i-ge-SLOTS.false c.if-floor-gt-ROWS.false c.if-s.false
+    (subst (λ (n : ℕ). a.floor ≤ 1024 - a.house.used - n) owing c.if-spare-floor.false) _
     c.opened.ensures)

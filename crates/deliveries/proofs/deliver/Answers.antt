@@ -26,22 +26,26 @@ returns-then-not-told c =
 
 pub returns-then-i-ge-SLOTS : goal.returns-then-i-ge-SLOTS
 returns-then-i-ge-SLOTS c =
-    c.answer_with-then-i-ge-SLOTS.ensures ∙ sym (deliver_no_slot _ _ _ (sounded c.args.house _ c.soundness_lent-told.ensures.0 c.if-not-told.false) c.if-i-ge-SLOTS.true)
+    let fine = sounded c.args.house _ c.soundness_lent-told.ensures.0 c.if-not-told.false in
+    c.answer_with-then-i-ge-SLOTS.ensures ∙ sym (deliver_no_slot _ _ _ fine c.if-i-ge-SLOTS.true)
 
 pub returns-then-not-s : goal.returns-then-not-s
 returns-then-not-s c =
+    let fine = sounded c.args.house _ c.soundness_lent-told.ensures.0 c.if-not-told.false in
     c.answer_with-then-not-s.ensures
-    ∙ sym (deliver_shut _ _ _ (sounded c.args.house _ c.soundness_lent-told.ensures.0 c.if-not-told.false) c.if-i-ge-SLOTS.false (not-true _ c.if-not-s.true))
+    ∙ sym (deliver_shut _ _ _ fine c.if-i-ge-SLOTS.false (not-true _ c.if-not-s.true))
 
 pub judge_slot-verdict-requires : goal.judge_slot-verdict-requires
 judge_slot-verdict-requires c =
-    open_session c.args.house c.args.slot (sounded c.args.house _ c.soundness_lent-told.ensures.0 c.if-not-told.false)
+    let fine = sounded c.args.house _ c.soundness_lent-told.ensures.0 c.if-not-told.false in
+    open_session c.args.house c.args.slot fine
     c.soundness_lent-told.ensures.1 c.if-i-ge-SLOTS.false (not-false _ c.if-not-s.false)
 
 pub settle_to-requires : goal.settle_to-requires
 settle_to-requires c =
+    let fine = sounded c.args.house _ c.soundness_lent-told.ensures.0 c.if-not-told.false in
     record {
-      sound = sounded c.args.house _ c.soundness_lent-told.ensures.0 c.if-not-told.false;
+      sound = fine;
       inside = c.if-i-ge-SLOTS.false;
       is = refl;
       taken = not-false _ c.if-not-s.false;
@@ -52,7 +56,8 @@ settle_to-requires c =
 
 pub returns : goal.returns
 returns c =
+    let fine = sounded c.args.house _ c.soundness_lent-told.ensures.0 c.if-not-told.false in
     let a = c.args in
     c.settle_to.ensures
     ∙ laid_judged a.house a.slot a.rec.now c.judge_slot-verdict.ensures.0
-    ∙ sym (deliver_judged _ _ _ (sounded c.args.house _ c.soundness_lent-told.ensures.0 c.if-not-told.false) c.if-i-ge-SLOTS.false (not-false _ c.if-not-s.false))
+    ∙ sym (deliver_judged _ _ _ fine c.if-i-ge-SLOTS.false (not-false _ c.if-not-s.false))

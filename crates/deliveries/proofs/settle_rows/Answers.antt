@@ -1,5 +1,5 @@
--- `deliveries::settle_rows` meets its contract: an open slot of a sound house lends its session and all rows, and takes them
--- back.
+-- `deliveries::settle_rows` meets its contract: an open slot of a sound house lends its session and all rows, and
+-- takes them back.
 -- Assumes nothing.
 use mathlib.Core.Path.{◌∙◌}
 use native.Mathlib.Omega.{arith}

@@ -65,7 +65,8 @@ pub loop-i-preserved : goal.loop-i-preserved
 loop-i-preserved c =
     let none : Row = record { head = 0; site = 0; bin = 0; count = 0 } in
     let row =
-    told c.args.house c.args.slot (length c.args.out.now) _ c.list_rows-list.ensures c.loop-i.i none c.loop-i-test.true in
+    told c.args.house c.args.slot (length c.args.out.now) _ c.list_rows-list.ensures c.loop-i.i none
+    c.loop-i-test.true in
     (omega (arith, c.loop-i-test.true), rw (c.loop-i.invariant.1, row, add-one))
 
 pub returns : goal.returns

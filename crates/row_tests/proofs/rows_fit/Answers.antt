@@ -1,10 +1,10 @@
--- `row_tests::rows_fit` meets its contract. The invariant: every row fits where those passed do, by their bits, and those from
--- i on do.
+-- `row_tests::rows_fit` meets its contract. The invariant: every row fits where those passed do, by their bits, and
+-- those from i on do.
 -- Assumes nothing.
 use mathlib.Core.Path.{◌≡◌, sym, ◌∙◌}
 use mathlib.Core.Bool.{Bool, ◌&&◌, and-true, and-false}
 use mathlib.Core.List.{List}
-use Prim.Native.Nat.{ℕ, ◌-◌, ◌≤◌}
+use Prim.Native.Nat.{ℕ, ◌≤◌}
 use native.Mathlib.Omega.{arith}
 use lib.Dec.{leb}
 use lib.ListN.{take, drop, get_or, length}

@@ -1,4 +1,5 @@
--- `row_tests::rows_open` meets its contract. The invariant: every row's slot is open where those of the rows from i on are.
+-- `row_tests::rows_open` meets its contract. The invariant: every row's slot is open where those of the rows from i
+-- on are.
 -- Assumes nothing.
 use mathlib.Core.Path.{◌≡◌, refl, sym, ◌∙◌}
 use mathlib.Core.Bool.{Bool, true, false, ◌&&◌}

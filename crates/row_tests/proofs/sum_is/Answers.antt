@@ -1,9 +1,9 @@
--- `row_tests::sum_is` meets its contract. The invariant: the slot's sum is what is added up with the rows from i on, where
--- nothing stands above, and is more than any total where something does.
+-- `row_tests::sum_is` meets its contract. The invariant: the slot's sum is what is added up with the rows from i on,
+-- where nothing stands above, and is more than any total where something does.
 -- Assumes nothing.
 use mathlib.Core.Path.{◌≡◌, sym}
 use mathlib.Core.List.{List}
-use Prim.Native.Nat.{ℕ, ◌+◌, ◌≤◌, ◌<◌, ◌-◌}
+use Prim.Native.Nat.{ℕ, ◌+◌, ◌≤◌, ◌<◌}
 use native.Mathlib.Omega.{arith}
 use lib.ListN.{get_or, take, drop}
 use borrow.Author.Tests.{ne_eqb}

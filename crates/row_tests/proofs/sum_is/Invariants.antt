@@ -1,5 +1,5 @@
--- `row_tests::sum_is` meets its contract. The invariant: the slot's sum is what is added up with the rows from i on, where
--- nothing stands above, and is more than any total where something does.
+-- `row_tests::sum_is` meets its contract. The invariant: the slot's sum is what is added up with the rows from i on,
+-- where nothing stands above, and is more than any total where something does.
 -- Assumes nothing.
 use Prim.Native.Nat.{◌*◌, ◌≤◌, ◌-◌}
 use lib.ListN.{take, drop}

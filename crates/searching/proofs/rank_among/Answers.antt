@@ -1,5 +1,5 @@
--- `searching::rank_among` meets its contract. The invariant: the rank is one of the n + 1 from `at` on, and n is at most the
--- width, so that one element is left when the width is 1.
+-- `searching::rank_among` meets its contract. The invariant: the rank is one of the n + 1 from `at` on, and n is at
+-- most the width, so that one element is left when the width is 1.
 -- Assumes nothing.
 use Prim.Native.Nat.{ℕ, ◌+◌, ◌-◌, ◌/◌, ◌≤◌, ◌<◌}
 use native.Mathlib.Omega.{arith}

@@ -12,7 +12,8 @@ invariant-loop-i l = (length l.slots ≡ 16) × (l.i ≤ 16)
     × (slots_sound 0 l.slots (take l.used l.keys) (take l.used l.counts)
     ≡ (l.sound && slots_sound l.i (drop l.i l.slots) (take l.used l.keys) (take l.used l.counts)))
     × (l.promised ≤ 4_294_967_295 * l.i)
-    × (promised_from 0 l.slots (take l.used l.keys) ≡ l.promised + promised_from l.i (drop l.i l.slots) (take l.used l.keys))
+    × (promised_from 0 l.slots (take l.used l.keys)
+    ≡ l.promised + promised_from l.i (drop l.i l.slots) (take l.used l.keys))
     × (length l.taken ≡ 16) × (take l.i l.taken ≡ take l.i (taken_of l.slots))
 
 abbrev pub decreases-loop-i : goal.decreases-loop-i
