@@ -31,10 +31,6 @@ loop-i-smaller c = omega arith
 pub loop-i-preserved : goal.loop-i-preserved
 loop-i-preserved c = (omega arith, moved_on _ _ _ _ (omega arith) c.loop-i.invariant.1)
 
--- FIXME same_length
--- same_length : tie.Need-same-length invariant-loop decreases-loop
--- same_length c = c.before.loop.invariant.1.long
-
 pub returns : goal.returns
 returns c =
     let inv = c.loop-i.invariant in

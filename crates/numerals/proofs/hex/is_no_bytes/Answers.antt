@@ -8,9 +8,5 @@ pub returns : goal.returns
 unfolding is_no_bytes
 returns c = c.same_bytes.ensures
 
--- FIXME slice-aggregate-same-bytes
--- slice-aggregate-same-bytes : tie.Need-slice-aggregate-same-bytes
--- slice-aggregate-same-bytes c = refl
-
 pub same_bytes-requires : goal.same_bytes-requires
 same_bytes-requires c = tt
