@@ -17,7 +17,7 @@ use mir.Facts.{sfits_to_z, to_z_pos, to_z-of_z}
 use Rattle.prelude.proofs.Parts.{part_from}
 use Rattle.numbers.specs.declared.Order.{Order}
 use Rattle.numbers.specs.declared.Order.TheVariants.{HighFirst, LowFirst}
-use Rattle.numbers.specs.Numbers.{ordered, worth, number, front, bytes, written, over, past, signed}
+use Rattle.numbers.specs.Numbers.{ordered, worth, front, bytes, written, over, past, signed}
 use Rattle.numbers.specs.Laws.{Bytes, ReadWritten, WrittenRead, LengthWritten, NumberBelow, FrontPart, PartBytes}
 
 -- ---- low byte first
