@@ -14,13 +14,19 @@ use Rattle.bodies.proofs.read_far.Goals as goal
 
 pub bounds-body-0 : goal.bounds-body-0
 unfolding type_of
-bounds-body-0 c = omega (arith, (let long' : 2 ≤ length c.args.body.now = let a = c.args in
-    required_there a.order far a.body.now (let fits' : fits_body c.args.order far c.args.body.now ≡ true = sym c.fits_table.ensures ∙ c.if-fits_table.true in fits') in long'))
+bounds-body-0 c = omega (
+  arith,
+  (let long' : 2 ≤ length c.args.body.now = let a = c.args in
+      required_there a.order far a.body.now (let fits' : fits_body c.args.order far c.args.body.now ≡ true = sym c.fits_table.ensures ∙ c.if-fits_table.true in fits') in long'),
+)
 
 pub bounds-body-1 : goal.bounds-body-1
 unfolding type_of
-bounds-body-1 c = omega (arith, (let long' : 2 ≤ length c.args.body.now = let a = c.args in
-    required_there a.order far a.body.now (let fits' : fits_body c.args.order far c.args.body.now ≡ true = sym c.fits_table.ensures ∙ c.if-fits_table.true in fits') in long'))
+bounds-body-1 c = omega (
+  arith,
+  (let long' : 2 ≤ length c.args.body.now = let a = c.args in
+      required_there a.order far a.body.now (let fits' : fits_body c.args.order far c.args.body.now ≡ true = sym c.fits_table.ensures ∙ c.if-fits_table.true in fits') in long'),
+)
 
 pub returns-then-fits_table : goal.returns-then-fits_table
 unfolding type_of

@@ -14,17 +14,17 @@ put_some-at-requires t c =
 
 pub put_many-at-requires : goal.put_many-at-requires
 put_many-at-requires t c = (
-    omega (arith, c.decreases, c.requires.0),
-    (omega arith, step_first c.args.n c.args.out.now c.requires.0 c.requires.1),
+  omega (arith, c.decreases, c.requires.0),
+  (omega arith, step_first c.args.n c.args.out.now c.requires.0 c.requires.1),
 )
 
 pub put_two-requires : goal.put_two-requires
 put_two-requires t c =
     let front : Put (digits (c.args.n / 100)) c.args.out.now c.if-hundreds-lt10000.at c.if-hundreds-lt10000.out =
-        elim c.if-hundreds-lt10000.branch [
-          then-hundreds-lt10000 w ↦ rw (w.out-is, w.at-is) w.put_some-at.ensures
-          | else-hundreds-lt10000 w ↦ rw (w.out-is, w.at-is) w.put_many-at.ensures
-        ]
+    elim c.if-hundreds-lt10000.branch [
+      | then-hundreds-lt10000 w ↦ rw (w.out-is, w.at-is) w.put_some-at.ensures
+      | else-hundreds-lt10000 w ↦ rw (w.out-is, w.at-is) w.put_many-at.ensures
+    ]
     in (
       omega arith,
       step_behind c.args.n c.args.out.now c.requires.0 c.requires.1 c.if-hundreds-lt10000.out
@@ -34,10 +34,10 @@ put_two-requires t c =
 pub returns : goal.returns
 returns t c =
     let front : Put (digits (c.args.n / 100)) c.args.out.now c.if-hundreds-lt10000.at c.if-hundreds-lt10000.out =
-        elim c.if-hundreds-lt10000.branch [
-          then-hundreds-lt10000 w ↦ rw (w.out-is, w.at-is) w.put_some-at.ensures
-          | else-hundreds-lt10000 w ↦ rw (w.out-is, w.at-is) w.put_many-at.ensures
-        ]
+    elim c.if-hundreds-lt10000.branch [
+      | then-hundreds-lt10000 w ↦ rw (w.out-is, w.at-is) w.put_some-at.ensures
+      | else-hundreds-lt10000 w ↦ rw (w.out-is, w.at-is) w.put_many-at.ensures
+    ]
     in
     step_both c.args.n c.args.out.now c.requires.0 c.requires.1 c.if-hundreds-lt10000.out c.if-hundreds-lt10000.at
     front c.put_two.new.out c.put_two.result c.put_two.ensures

@@ -17,12 +17,11 @@ pub slice_bounds-put_two-start : goal.slice_bounds-put_two-start
 slice_bounds-put_two-start c = slice_bounds-put_two-count c
 
 pub put_two-requires : goal.put_two-requires
-put_two-requires c =
-    (
-      omega arith,
-      step_behind c.args.n c.args.out.now c.if-n-lt100.false c.requires.1
-          c.put_few-at.new.out c.put_few-at.result c.put_few-at.ensures,
-    )
+put_two-requires c = (
+  omega arith,
+  step_behind c.args.n c.args.out.now c.if-n-lt100.false c.requires.1
+      c.put_few-at.new.out c.put_few-at.result c.put_few-at.ensures,
+)
 
 pub returns : goal.returns
 returns c =

@@ -22,7 +22,7 @@ returns-then-i-ge-SLOTS c =
     record {
       carry_after =
           unfed_told _ _ _ c.fed-then-i-ge-SLOTS.ensures
-      ∙ feed_no_slot _ _ _ _ (told_sound _ _ c.soundness_lent-told.ensures.0 (not-false _ c.if-not-told.false)) c.if-i-ge-SLOTS.true;
+          ∙ feed_no_slot _ _ _ _ (told_sound _ _ c.soundness_lent-told.ensures.0 (not-false _ c.if-not-told.false)) c.if-i-ge-SLOTS.true;
       kept = λ failed. refl;
     }
 

@@ -35,10 +35,10 @@ pour_all-p-requires c =
     let long : length c.args.house.keys ≡ 1024 = search rules in
     let paired : length c.args.house.counts ≡ 1024 = search rules in
     let seen =
-        room_is a.house.slots (keys_of a.house) a.i a.s c.requires.is a.owed c.unfilled_of-own.result
-        c.requires.owes c.unfilled_of-own.ensures in
+    room_is a.house.slots (keys_of a.house) a.i a.s c.requires.is a.owed c.unfilled_of-own.result
+    c.requires.owes c.unfilled_of-own.ensures in
     let told = slot_told a.house a.i c.requires.fine (omega (arith, c.requires.slots, c.requires.inside))
-        (ap (λ (x : Slot). x.taken) (sym c.requires.is) ∙ c.requires.taken) in
+    (ap (λ (x : Slot). x.taken) (sym c.requires.is) ∙ c.requires.taken) in
     let same = ap (λ (x : Slot). x.held) c.requires.is in (
       record {
         lends = lends_to a.house a.owed a.i a.s a.carry.now c.requires long paired seen;
@@ -54,12 +54,12 @@ returns c =
     let long : length c.args.house.keys ≡ 1024 = search rules in
     let paired : length c.args.house.counts ≡ 1024 = search rules in
     let seen =
-        room_is a.house.slots (keys_of a.house) a.i a.s c.requires.is a.owed c.unfilled_of-own.result
-        c.requires.owes c.unfilled_of-own.ensures in
+    room_is a.house.slots (keys_of a.house) a.i a.s c.requires.is a.owed c.unfilled_of-own.result
+    c.requires.owes c.unfilled_of-own.ensures in
     let carry_range : Bytes a.carry.now = λ k. omega (arith, c.slice_known-1.given k) in
     let chunk_range : Bytes a.chunk.now = λ k. omega (arith, c.shared_slice_known-1.given k) in
     let range = bytes_append (take a.s.held a.carry.now) a.chunk.now
-        (part_bytes a.carry.now 0 a.s.held carry_range) chunk_range in
+    (part_bytes a.carry.now 0 a.s.held carry_range) chunk_range in
     feed_laid a.house a.owed a.i a.s a.carry.now c.requires long paired a.chunk.now
     range seen _ _ _ c.pour_all-p.result _ c.pour_all-p.auto.carry
     c.pour_all-p.ensures c.answer_of-answer.ensures c.fed.ensures

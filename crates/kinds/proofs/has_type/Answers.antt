@@ -1,7 +1,6 @@
 -- `kinds::has_type` meets its contract: the entries that are passed have another type.
 -- Assumes nothing.
 use mathlib.Core.Path.{refl, sym, ◌∙◌}
-use Prim.Native.Nat.{◌-◌}
 use native.Mathlib.Omega.{arith}
 use Rattle.kinds.specs.Kinds.{pairs}
 use Rattle.kinds.proofs.Laws.{type_none, type_here, type_on}

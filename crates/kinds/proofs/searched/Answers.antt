@@ -1,7 +1,6 @@
 -- `kinds::searched` meets its contract: the entries that are passed are other pairs.
 -- Assumes nothing.
 use mathlib.Core.Path.{refl, sym, ◌∙◌}
-use Prim.Native.Nat.{◌-◌}
 use native.Mathlib.Omega.{arith}
 use Rattle.kinds.specs.Kinds.{pairs, kind_of}
 use Rattle.kinds.proofs.Laws.{named_none, named_here, named_on}

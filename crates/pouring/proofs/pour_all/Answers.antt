@@ -14,17 +14,16 @@ pub pour_carry-q-requires : goal.pour_carry-q-requires
 pour_carry-q-requires c = c.requires.0
 
 pub loop-keys-init : goal.loop-keys-init
-loop-keys-init c =
-    (
-      flow_begins _ _ _ _ _ _ _ _ _ _ _ c.args.chunk.now c.requires.0 c.requires.1 c.pour_carry-q.ensures,
-      refl,
-      c.pour_carry-q.auto.carry ∙ c.requires.0.long,
-      refl,
-      refl,
-      refl,
-      refl,
-      refl,
-    )
+loop-keys-init c = (
+  flow_begins _ _ _ _ _ _ _ _ _ _ _ c.args.chunk.now c.requires.0 c.requires.1 c.pour_carry-q.ensures,
+  refl,
+  c.pour_carry-q.auto.carry ∙ c.requires.0.long,
+  refl,
+  refl,
+  refl,
+  refl,
+  refl,
+)
 
 pub goes_on-requires : goal.goes_on-requires
 goes_on-requires c = tt
@@ -45,8 +44,7 @@ pub loop-keys-preserved : goal.loop-keys-preserved
 loop-keys-preserved c =
     let inv = c.loop-keys.invariant in
     let on = (let going' : (c.loop-keys.q.fate ≡ Going) × (c.loop-keys.q.at < length c.args.chunk.now) = goes_on_lem c.loop-keys.q (length c.args.chunk.now)
-    (sym c.goes_on.ensures ∙ c.loop-keys-test.true) in going') in
-    (
+    (sym c.goes_on.ensures ∙ c.loop-keys-test.true) in going') in (
       flow_on _ _ _ _ _ _ _ _ _ on.0 inv.0 c.pour_more-q.ensures,
       inv.1,
       c.pour_more-q.auto.carry ∙ inv.2,

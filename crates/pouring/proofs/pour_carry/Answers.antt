@@ -14,13 +14,12 @@ walk-w-requires c =
     (front_part c.args.p.held c.args.carry.now) c.stage_of.ensures
 
 pub keep-held-requires : goal.keep-held-requires
-keep-held-requires c =
-    (
-      carry_left _ _ _ _ c.args.p c.args.carry.now _ c.requires
-          (front_part c.args.p.held c.args.carry.now) c.stage_of.ensures _ _ _ _
-          c.walk-w.ensures,
-      omega (arith, c.requires.within, c.requires.long),
-    )
+keep-held-requires c = (
+  carry_left _ _ _ _ c.args.p c.args.carry.now _ c.requires
+      (front_part c.args.p.held c.args.carry.now) c.stage_of.ensures _ _ _ _
+      c.walk-w.ensures,
+  omega (arith, c.requires.within, c.requires.long),
+)
 
 pub returns : goal.returns
 returns c =

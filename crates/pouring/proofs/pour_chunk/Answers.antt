@@ -44,7 +44,7 @@ returns c =
           c.walk-w.ensures c.standing_of-standing.ensures);
       within =
           let told = (let fits' : (c.walk-w.result.at ≤ c.held_to-end.result) × (c.held_to-end.result ≤ length c.args.chunk.now) × (c.held_to-end.result - c.walk-w.result.at ≤ carry_length) = part_fits c.walk-w.result.fate _ _ _ c.walk-w.ensures.within range c.walk-w.ensures.few _
-    c.held_to-end.ensures in fits') in
+          c.held_to-end.ensures in fits') in
           let at = c.walk-w.result.at in
           let long = length_part at (c.held_to-end.result - at) c.args.chunk.now (omega (arith, told.0, told.1)) in
           omega (arith, c.put_part-held.ensures.count, long, told.2);

@@ -25,7 +25,7 @@ loop-i-preserved c =
       c.loop-i.invariant.1
           ∙ rw (rest_next l used i c.requires inside)
           (elim c.if-s-i.branch [
-            then-s-i w ↦ rw (w.rises-is, le-ltb (get_or l (i - 1) 0) (get_or l i 0) (omega arith)) (and-false passed)
+            | then-s-i w ↦ rw (w.rises-is, le-ltb (get_or l (i - 1) 0) (get_or l i 0) (omega arith)) (and-false passed)
             | else-s-i w ↦ rw (w.rises-is, lt-ltb (get_or l (i - 1) 0) (get_or l i 0) (omega arith))
           ]),
     )

@@ -1,7 +1,6 @@
 -- `rising::remove` meets its contract. The invariant: taking n elements out from i on is what is left to do.
 -- Assumes nothing.
 use mathlib.Core.Path.{sym, ◌∙◌}
-use Prim.Native.Nat.{◌-◌}
 use native.Mathlib.Omega.{arith}
 use lib.ListN.{length-set}
 use Rattle.rising.proofs.Steps.{remove_on, remove_end}

@@ -30,19 +30,24 @@ returns-then-holds c =
 
 pub insert-requires : goal.insert-requires
 insert-requires c = (let room' : (c.args.at ≤ c.args.used) × (c.args.used < length c.args.keys.now) = (
-      count_within _ _ _ _ _ c.requires,
-      count_room _ _ _ _ _ c.requires _ c.holds.ensures c.if-holds.false,
-    ) in room')
+  count_within _ _ _ _ _ c.requires,
+  count_room _ _ _ _ _ c.requires _ c.holds.ensures c.if-holds.false,
+) in room')
 
 pub insert-requires-2 : goal.insert-requires-2
-insert-requires-2 c =
-    ((let room' : (c.args.at ≤ c.args.used) × (c.args.used < length c.args.keys.now) = (
+insert-requires-2 c = (
+  (let room' : (c.args.at ≤ c.args.used) × (c.args.used < length c.args.keys.now) = (
+    count_within _ _ _ _ _ c.requires,
+    count_room _ _ _ _ _ c.requires _ c.holds.ensures c.if-holds.false,
+  ) in room').0,
+  omega (
+    arith,
+    (let room' : (c.args.at ≤ c.args.used) × (c.args.used < length c.args.keys.now) = (
       count_within _ _ _ _ _ c.requires,
       count_room _ _ _ _ _ c.requires _ c.holds.ensures c.if-holds.false,
-    ) in room').0, omega (arith, (let room' : (c.args.at ≤ c.args.used) × (c.args.used < length c.args.keys.now) = (
-      count_within _ _ _ _ _ c.requires,
-      count_room _ _ _ _ _ c.requires _ c.holds.ensures c.if-holds.false,
-    ) in room')))
+    ) in room'),
+  ),
+)
 
 pub returns : goal.returns
 returns c =

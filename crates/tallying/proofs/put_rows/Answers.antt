@@ -58,13 +58,12 @@ loop-i-smaller c =
     omega (arith, c.loop-i-test.true)
 
 pub loop-i-preserved : goal.loop-i-preserved
-loop-i-preserved c =
-    (
-      omega (arith, c.loop-i-test.true),
-      λ h is.
-          lined_on _ _ _ _ _ _ _ _ c.put_row-at.auto.out (row_listed h _ is _ _ c.loop-i-test.true)
-          (c.loop-i.invariant.1 h is) c.put_row-at.ensures,
-    )
+loop-i-preserved c = (
+  omega (arith, c.loop-i-test.true),
+  λ h is.
+      lined_on _ _ _ _ _ _ _ _ c.put_row-at.auto.out (row_listed h _ is _ _ c.loop-i-test.true)
+      (c.loop-i.invariant.1 h is) c.put_row-at.ensures,
+)
 
 pub returns : goal.returns
 returns c =

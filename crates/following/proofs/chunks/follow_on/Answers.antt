@@ -31,11 +31,10 @@ walk-w-requires c =
     c.alone.ensures c.stage_of.ensures
 
 pub keep-held-requires : goal.keep-held-requires
-keep-held-requires c =
-    (
-      walk_ends c.args.s c.args.buf.now c.args.got c.requires.0 c.requires.1 c.requires.2 c.requires.3
-          (let long' : length c.args.s.keys ≡ 1024 = search rules in long') (let paired' : length c.args.s.counts ≡ 1024 = search rules in paired') (let cells' : length c.args.s.parts ≡ 40 = search rules in cells') _ (front_part (c.args.s.held + c.args.got) c.args.buf.now)
-          c.alone.ensures c.stage_of.ensures _ _ _ _ c.walk-w.ensures
-          c.kept_from.ensures,
-      c.requires.2,
-    )
+keep-held-requires c = (
+  walk_ends c.args.s c.args.buf.now c.args.got c.requires.0 c.requires.1 c.requires.2 c.requires.3
+      (let long' : length c.args.s.keys ≡ 1024 = search rules in long') (let paired' : length c.args.s.counts ≡ 1024 = search rules in paired') (let cells' : length c.args.s.parts ≡ 40 = search rules in cells') _ (front_part (c.args.s.held + c.args.got) c.args.buf.now)
+      c.alone.ensures c.stage_of.ensures _ _ _ _ c.walk-w.ensures
+      c.kept_from.ensures,
+  c.requires.2,
+)

@@ -25,33 +25,46 @@ returns-then-end-at c =
 
 pub bounds-bytes-at : goal.bounds-bytes-at
 bounds-bytes-at c =
-    omega (arith, (let ends' : c.args.s.at + c.needed-n.result ≤ length c.args.bytes.now = omega (arith, c.if-end-at.false, c.requires.0.within) in ends'), (let some' : 4 ≤ c.needed-n.result = omega (
-  arith,
-  (let told' : c.needed-n.result ≡ needed (stage_standing c.args.s) (rest c.args.s c.args.bytes.now) = told_needed c.args.s c.args.bytes.now c.standing_of.ensures
-    c.needed-n.ensures in told'),
-  needed_some (stage_standing c.args.s)
-      (rest c.args.s c.args.bytes.now),
-) in some'))
+    omega (
+      arith,
+      (let ends' : c.args.s.at + c.needed-n.result ≤ length c.args.bytes.now = omega (arith, c.if-end-at.false, c.requires.0.within) in ends'),
+      (let some' : 4 ≤ c.needed-n.result = omega (
+        arith,
+        (let told' : c.needed-n.result ≡ needed (stage_standing c.args.s) (rest c.args.s c.args.bytes.now) = told_needed c.args.s c.args.bytes.now c.standing_of.ensures
+            c.needed-n.ensures in told'),
+        needed_some (stage_standing c.args.s)
+            (rest c.args.s c.args.bytes.now),
+      ) in some'),
+    )
 
 pub bounds-bytes-at-2 : goal.bounds-bytes-at-2
 bounds-bytes-at-2 c =
-    omega (arith, (let ends' : c.args.s.at + c.needed-n.result ≤ length c.args.bytes.now = omega (arith, c.if-end-at.false, c.requires.0.within) in ends'), (let some' : 4 ≤ c.needed-n.result = omega (
-  arith,
-  (let told' : c.needed-n.result ≡ needed (stage_standing c.args.s) (rest c.args.s c.args.bytes.now) = told_needed c.args.s c.args.bytes.now c.standing_of.ensures
-    c.needed-n.ensures in told'),
-  needed_some (stage_standing c.args.s)
-      (rest c.args.s c.args.bytes.now),
-) in some'))
+    omega (
+      arith,
+      (let ends' : c.args.s.at + c.needed-n.result ≤ length c.args.bytes.now = omega (arith, c.if-end-at.false, c.requires.0.within) in ends'),
+      (let some' : 4 ≤ c.needed-n.result = omega (
+        arith,
+        (let told' : c.needed-n.result ≡ needed (stage_standing c.args.s) (rest c.args.s c.args.bytes.now) = told_needed c.args.s c.args.bytes.now c.standing_of.ensures
+            c.needed-n.ensures in told'),
+        needed_some (stage_standing c.args.s)
+            (rest c.args.s c.args.bytes.now),
+      ) in some'),
+    )
 
 pub overflow_add-result : goal.overflow_add-result
 overflow_add-result c =
-    omega (arith, (let ends' : c.args.s.at + c.needed-n.result ≤ length c.args.bytes.now = omega (arith, c.if-end-at.false, c.requires.0.within) in ends'), (let some' : 4 ≤ c.needed-n.result = omega (
-  arith,
-  (let told' : c.needed-n.result ≡ needed (stage_standing c.args.s) (rest c.args.s c.args.bytes.now) = told_needed c.args.s c.args.bytes.now c.standing_of.ensures
-    c.needed-n.ensures in told'),
-  needed_some (stage_standing c.args.s)
-      (rest c.args.s c.args.bytes.now),
-) in some'), c.requires.0.countable)
+    omega (
+      arith,
+      (let ends' : c.args.s.at + c.needed-n.result ≤ length c.args.bytes.now = omega (arith, c.if-end-at.false, c.requires.0.within) in ends'),
+      (let some' : 4 ≤ c.needed-n.result = omega (
+        arith,
+        (let told' : c.needed-n.result ≡ needed (stage_standing c.args.s) (rest c.args.s c.args.bytes.now) = told_needed c.args.s c.args.bytes.now c.standing_of.ensures
+            c.needed-n.ensures in told'),
+        needed_some (stage_standing c.args.s)
+            (rest c.args.s c.args.bytes.now),
+      ) in some'),
+      c.requires.0.countable,
+    )
 
 pub overflow_add-result-then-is_test : goal.overflow_add-result-then-is_test
 overflow_add-result-then-is_test c =
@@ -68,6 +81,10 @@ pub take_record-requires : goal.take_record-requires
 take_record-requires c =
     record {
       walkable = (c.requires.0, c.requires.1);
-      n_value = ((let told' : c.needed-n.result ≡ needed (stage_standing c.args.s) (rest c.args.s c.args.bytes.now) = told_needed c.args.s c.args.bytes.now c.standing_of.ensures
-    c.needed-n.ensures in told'), c.if-most-n.false, (let ends' : c.args.s.at + c.needed-n.result ≤ length c.args.bytes.now = omega (arith, c.if-end-at.false, c.requires.0.within) in ends'));
+      n_value = (
+        (let told' : c.needed-n.result ≡ needed (stage_standing c.args.s) (rest c.args.s c.args.bytes.now) = told_needed c.args.s c.args.bytes.now c.standing_of.ensures
+            c.needed-n.ensures in told'),
+        c.if-most-n.false,
+        (let ends' : c.args.s.at + c.needed-n.result ≤ length c.args.bytes.now = omega (arith, c.if-end-at.false, c.requires.0.within) in ends'),
+      );
     }

@@ -17,14 +17,13 @@ pub loop-s-smaller : goal.loop-s-smaller
 loop-s-smaller c = c.step-s.ensures.nearer
 
 pub loop-s-preserved : goal.loop-s-preserved
-loop-s-preserved c =
-    (
-      onward_on _ _ _ _ _ _ _ _ _ _ _ c.loop-s.invariant.0 c.step-s.ensures.onward,
-      c.step-s.auto.guesses ∙ c.loop-s.invariant.1,
-      c.step-s.auto.keys ∙ c.loop-s.invariant.2,
-      c.step-s.auto.counts ∙ c.loop-s.invariant.3,
-      c.step-s.auto.parts ∙ c.loop-s.invariant.4,
-    )
+loop-s-preserved c = (
+  onward_on _ _ _ _ _ _ _ _ _ _ _ c.loop-s.invariant.0 c.step-s.ensures.onward,
+  c.step-s.auto.guesses ∙ c.loop-s.invariant.1,
+  c.step-s.auto.keys ∙ c.loop-s.invariant.2,
+  c.step-s.auto.counts ∙ c.loop-s.invariant.3,
+  c.step-s.auto.parts ∙ c.loop-s.invariant.4,
+)
 
 pub returns : goal.returns
 returns c =
