@@ -1,14 +1,17 @@
 // Lines of standard input, one after another, over two lent buffers: a chunk as it was read, and the line that is put
 // together from chunks. A line longer than its buffer is passed over. No contract can say what is read; how a chunk is
-// cut and where its bytes go is promised.
+// cut and where its bytes go is promised. A read that fails is answered with its error: the input has no more lines then,
+// and nothing is said of what stands in either buffer.
 #![tactic(auto)]
 
-ghost use Rattle.std.specs.Prelude.{◌≡◌, ◌≤◌, length};
+ghost use Rattle.std.specs.Prelude.{◌≡◌, ◌≤◌, length, IfOk};
 ghost use Rattle.output.specs.Placed.{outcome, placed_at};
 ghost use Rattle.input.specs.Lines.{up_to};
 
 use answers::Answer;
 use output::{Written, put_part};
+use std::io;
+use std::io::Read;
 
 // Of the first `got` bytes of the chunk the last `left` are still to be taken.
 #[derive(Clone, Copy)]
@@ -117,45 +120,54 @@ fn take_part(g: Gathered, line: &mut [u8], bytes: &[u8]) -> Gathered
     }
 }
 
-// Reads once. A read that gives nothing, or fails, is the end of the input.
-fn read_more(g: Gathered, chunk: &mut [u8]) -> Gathered
-    ensures { result.long ≡ g.long }
+// Reads once. A read that gives nothing is the end of the input.
+fn read_more(stdin: &mut impl Read, g: Gathered, chunk: &mut [u8]) -> io::Result<Gathered>
+    ensures { IfOk result (λ r. r.long ≡ g.long) }
 {
-    let answer = libc::read(0, chunk);
-    let got = io::count(answer, chunk);
-    Gathered {
+    let got = stdin.read(chunk)?;
+    Ok(Gathered {
         got,
         left: got,
         long: g.long,
         fits: g.fits,
         going: 0 < got,
         ended: got == 0,
-    }
+    })
 }
 
 // The bytes that are left of the chunk, or those of the next one.
-fn take_more(g: Gathered, chunk: &mut [u8], line: &mut [u8]) -> Gathered
+fn take_more(
+    stdin: &mut impl Read,
+    g: Gathered,
+    chunk: &mut [u8],
+    line: &mut [u8],
+) -> io::Result<Gathered>
     requires { g.long ≤ length line.old }
-    ensures { result.long ≤ length line.new }
+    ensures { IfOk result (λ r. r.long ≤ length line.new) }
 {
     let got = g.got;
     let left = g.left;
     if left == 0 {
-        return read_more(g, chunk);
+        return read_more(stdin, g, chunk);
     }
     if got < left {
-        return read_more(g, chunk);
+        return read_more(stdin, g, chunk);
     }
     if chunk.len() < got {
-        return read_more(g, chunk);
+        return read_more(stdin, g, chunk);
     }
     let from = got - left;
-    take_part(g, line, &chunk[from..got])
+    Ok(take_part(g, line, &chunk[from..got]))
 }
 
 // A proved loop has to end, and nothing says that the input does: the turns are a number that no run uses up.
-fn take_line(input: Input, chunk: &mut [u8], line: &mut [u8]) -> Gathered
-    ensures { result.long ≤ length line.new }
+fn take_line(
+    stdin: &mut impl Read,
+    input: Input,
+    chunk: &mut [u8],
+    line: &mut [u8],
+) -> io::Result<Gathered>
+    ensures { IfOk result (λ r. r.long ≤ length line.new) }
 {
     let mut g = Gathered {
         got: input.got,
@@ -167,10 +179,10 @@ fn take_line(input: Input, chunk: &mut [u8], line: &mut [u8]) -> Gathered
     };
     let mut turns = u64::MAX;
     while turns > 0 && g.going {
-        g = take_more(g, chunk, line);
+        g = take_more(stdin, g, chunk, line)?;
         turns -= 1;
     }
-    g
+    Ok(g)
 }
 
 // A last line without LF is a line, if it has a byte.
@@ -185,18 +197,23 @@ fn found_of(g: Gathered) -> Found {
 }
 
 // The next line, at the start of the lent line.
-pub fn next_line(input: Input, chunk: &mut [u8], line: &mut [u8]) -> Next
-    ensures { result.long ≤ length line.new }
+pub fn next_line(
+    stdin: &mut impl Read,
+    input: Input,
+    chunk: &mut [u8],
+    line: &mut [u8],
+) -> io::Result<Next>
+    ensures { IfOk result (λ r. r.long ≤ length line.new) }
 {
-    let g = take_line(input, chunk, line);
+    let g = take_line(stdin, input, chunk, line)?;
     let input = Input {
         got: g.got,
         left: g.left,
     };
     let found = found_of(g);
-    Next {
+    Ok(Next {
         input,
         found,
         long: g.long,
-    }
+    })
 }
