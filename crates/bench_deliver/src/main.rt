@@ -52,10 +52,10 @@ fn deliver_all(house: House, recs: &[u8], split: usize) -> House
     h
 }
 
-fn has_input(stdin: &mut impl Read) -> io::Result<bool> {
+fn has_input(stdin: &mut impl Read) -> bool {
     let mut some = [0u8; 1];
-    let got = stdin.read(&mut some)?;
-    Ok(got > 0)
+    let got = stdin.read(&mut some).unwrap_or(0);
+    got > 0
 }
 
 fn say_figures(rt: &impl Print, found: Figures) -> io::Result<()> {
@@ -69,7 +69,7 @@ fn say_figures(rt: &impl Print, found: Figures) -> io::Result<()> {
 }
 
 fn main(rt: HostRuntime) -> io::Result<()> {
-    if has_input(&mut rt.stdin())? {
+    if has_input(&mut rt.stdin()) {
         let pair = b"\x02\x00\x05\x0a\x00\x00\x07\x00\x05\x14\x00\x00\x00\x00\x00\x05\x00";
         say_figures(&rt, calls::figures(deliver_all(held(), pair, 6)))
     } else {

@@ -4,7 +4,7 @@
 // tally program writes them.
 #![tactic(auto)]
 
-ghost use Rattle.std.specs.Prelude.{◌≡◌, ◌*◌, ◌≤◌, length, IfOk};
+ghost use Rattle.std.specs.Prelude.{◌≡◌, ◌*◌, ◌≤◌, length};
 ghost use Rattle.tally_lines.specs.Writing.{most_line};
 
 use answers::Answer;
@@ -49,37 +49,31 @@ fn plus(a: u64, b: u64) -> u64 {
     a + b
 }
 
-// Reads until the bytes are all there, or the input ends.
-fn read_full(stdin: &mut impl Read, bytes: &mut [u8]) -> io::Result<()> {
+// Reads until the bytes are all there, or the input ends. A read that fails is its end.
+fn read_full(stdin: &mut impl Read, bytes: &mut [u8]) {
     let mut done: usize = 0;
     let mut more = true;
     while more && done < bytes.len() {
-        let got = stdin.read(&mut bytes[done..])?;
+        let got = stdin.read(&mut bytes[done..]).unwrap_or(0);
         done += got;
         more = 0 < got;
     }
-    Ok(())
 }
 
-fn chunk_size(stdin: &mut impl Read) -> io::Result<usize>
-    ensures { IfOk result (λ r. r ≤ 262144) }
+fn chunk_size(stdin: &mut impl Read) -> usize
+    ensures { result ≤ 262144 }
 {
     let mut four = [0u8; 4];
-    read_full(stdin, &mut four)?;
+    read_full(stdin, &mut four);
     let size = four_at(&four, 0) as usize;
     if MOST_CHUNK < size {
-        return Ok(MOST_CHUNK);
+        return MOST_CHUNK;
     }
-    Ok(size)
+    size
 }
 
 // A proved loop has to end, and nothing says that the input does: the turns are a number that no run uses up.
-fn feed_all(
-    stdin: &mut impl Read,
-    house: House,
-    carry: &mut [u8],
-    buf: &mut [u8],
-) -> io::Result<Feeding> {
+fn feed_all(stdin: &mut impl Read, house: House, carry: &mut [u8], buf: &mut [u8]) -> Feeding {
     let mut taken: u64 = 0;
     let mut last = Fed {
         answer: Answer::Done,
@@ -89,14 +83,14 @@ fn feed_all(
     let mut turns = u64::MAX;
     let mut more = true;
     while turns > 0 && more {
-        let got = stdin.read(buf)?;
+        let got = stdin.read(buf).unwrap_or(0);
         last = feed(last.house, 0, carry, &buf[0..got]);
         let answer = last.answer;
         taken = plus(taken, last.taken as u64);
         more = 0 < got && answers::number(answer) == 0;
         turns -= 1;
     }
-    Ok(Feeding { taken, last })
+    Feeding { taken, last }
 }
 
 fn say_rows(rt: &impl Print, out: &mut [u8], house: House) -> io::Result<()>
@@ -137,8 +131,8 @@ fn main(rt: HostRuntime) -> io::Result<()> {
     let mut carry = carry_buffer();
     let mut space = chunk_buffer();
     let mut out = [0u8; 65536];
-    let n = chunk_size(&mut stdin)?;
-    let f = feed_all(&mut stdin, opened(), &mut carry, &mut space[0..n])?;
+    let n = chunk_size(&mut stdin);
+    let f = feed_all(&mut stdin, opened(), &mut carry, &mut space[0..n]);
     say_end(&rt, f)?;
     let last = f.last;
     say_rows(&rt, &mut out, last.house)

@@ -1,8 +1,8 @@
 // A line of a case script, `LABEL: VERB BYTES`: the label is copied to the transcript up to its colon, and what the
 // call answers stands behind it. A line without a label only sets something up. A verb is known by its first letter.
 // Bytes are words in lower case hexadecimal, one behind the other; `HEX*N` is such a word N times, and a word that is
-// neither is said as `?`. Lines that begin with `#`, and empty ones, are copied. A read or a write that fails is answered
-// with its error, and nothing is said then of what stands in the lent buffers.
+// neither is said as `?`. Lines that begin with `#`, and empty ones, are copied. A write that fails is answered with its
+// error, and nothing is said then of what stands in the lent buffers.
 #![tactic(auto)]
 
 mod saying;
@@ -170,7 +170,7 @@ pub fn next_call(
     ensures { IfOk result (λ r. r.bytes ≤ length out.new) }
 {
     let before = last.input;
-    let next = next_line(stdin, before, chunk, line)?;
+    let next = next_line(stdin, before, chunk, line);
     let found = next.found;
     let input = next.input;
     let long = next.long;

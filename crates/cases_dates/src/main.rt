@@ -93,7 +93,7 @@ fn play_all(
     let mut input = input::begin();
     let mut turns = u64::MAX;
     while turns > 0 {
-        let next = next_line(stdin, input, chunk, line)?;
+        let next = next_line(stdin, input, chunk, line);
         let found = next.found;
         let long = next.long;
         if has_ended(found) {

