@@ -1,6 +1,5 @@
 -- `input::until` meets its contract: none of the bytes before i stops, and what is left starts there.
 -- Assumes nothing.
-use Prim.Native.Nat.{◌-◌}
 use native.Mathlib.Omega.{arith}
 use Rattle.input.proofs.Laws.{up_to_none, up_to_stops, up_to_goes}
 use Rattle.input.proofs.until.Goals as goal
