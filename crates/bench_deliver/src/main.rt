@@ -9,6 +9,8 @@ use fixtures::{rising_keys, standing};
 use house::{Figures, House, Slot};
 use order::Place;
 use session::Session;
+use std::io;
+use std::io::Read;
 use transcript::{say, say_answer, say_number};
 
 const TURNS: u64 = 50000;
@@ -50,28 +52,28 @@ fn deliver_all(house: House, recs: &[u8], split: usize) -> House
     h
 }
 
-fn has_input() -> bool {
+fn has_input(stdin: &mut impl Read) -> bool {
     let mut some = [0u8; 1];
-    let got = libc::read(0, &mut some);
-    io::count(got, &some) > 0
+    let got = stdin.read(&mut some).unwrap_or(0);
+    got > 0
 }
 
-fn say_figures(found: Figures) {
+fn say_figures(rt: &impl Print, found: Figures) -> io::Result<()> {
     let answer = found.answer;
-    say_answer(answer);
-    say(b" ");
-    say_number(found.free as u64);
-    say(b" ");
-    say_number(found.promised as u64);
-    say(b"\n");
+    say_answer(rt, answer)?;
+    say(rt, b" ")?;
+    say_number(rt, found.free as u64)?;
+    say(rt, b" ")?;
+    say_number(rt, found.promised as u64)?;
+    say(rt, b"\n")
 }
 
-fn main() {
-    if has_input() {
+fn main(rt: HostRuntime) -> io::Result<()> {
+    if has_input(&mut rt.stdin()) {
         let pair = b"\x02\x00\x05\x0a\x00\x00\x07\x00\x05\x14\x00\x00\x00\x00\x00\x05\x00";
-        say_figures(calls::figures(deliver_all(held(), pair, 6)));
+        say_figures(&rt, calls::figures(deliver_all(held(), pair, 6)))
     } else {
         let same = b"\x04\x00\x0f\x0a\x00\x00\x00\x00\x04\x00\x0f\x0a\x00\x00\x00\x00";
-        say_figures(calls::figures(deliver_all(held(), same, 8)));
+        say_figures(&rt, calls::figures(deliver_all(held(), same, 8)))
     }
 }

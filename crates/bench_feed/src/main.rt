@@ -12,6 +12,8 @@ use feeding::{end_feed, feed};
 use fixtures::four_at;
 use house::{Fed, House};
 use reports::list_rows;
+use std::io;
+use std::io::Read;
 use tally_lines::put_row;
 use transcript::{say, say_number};
 
@@ -47,11 +49,22 @@ fn plus(a: u64, b: u64) -> u64 {
     a + b
 }
 
-fn chunk_size() -> usize
+// Reads until the bytes are all there, or the input ends. A read that fails is its end.
+fn read_full(stdin: &mut impl Read, bytes: &mut [u8]) {
+    let mut done: usize = 0;
+    let mut more = true;
+    while more && done < bytes.len() {
+        let got = stdin.read(&mut bytes[done..]).unwrap_or(0);
+        done += got;
+        more = 0 < got;
+    }
+}
+
+fn chunk_size(stdin: &mut impl Read) -> usize
     ensures { result ≤ 262144 }
 {
     let mut four = [0u8; 4];
-    io::read_full(0, &mut four);
+    read_full(stdin, &mut four);
     let size = four_at(&four, 0) as usize;
     if MOST_CHUNK < size {
         return MOST_CHUNK;
@@ -60,7 +73,7 @@ fn chunk_size() -> usize
 }
 
 // A proved loop has to end, and nothing says that the input does: the turns are a number that no run uses up.
-fn feed_all(house: House, carry: &mut [u8], buf: &mut [u8]) -> Feeding {
+fn feed_all(stdin: &mut impl Read, house: House, carry: &mut [u8], buf: &mut [u8]) -> Feeding {
     let mut taken: u64 = 0;
     let mut last = Fed {
         answer: Answer::Done,
@@ -70,8 +83,7 @@ fn feed_all(house: House, carry: &mut [u8], buf: &mut [u8]) -> Feeding {
     let mut turns = u64::MAX;
     let mut more = true;
     while turns > 0 && more {
-        let read = libc::read(0, buf);
-        let got = io::count(read, buf);
+        let got = stdin.read(buf).unwrap_or(0);
         last = feed(last.house, 0, carry, &buf[0..got]);
         let answer = last.answer;
         taken = plus(taken, last.taken as u64);
@@ -81,7 +93,7 @@ fn feed_all(house: House, carry: &mut [u8], buf: &mut [u8]) -> Feeding {
     Feeding { taken, last }
 }
 
-fn say_rows(out: &mut [u8], house: House)
+fn say_rows(rt: &impl Print, out: &mut [u8], house: House) -> io::Result<()>
     requires { most_line * 1024 ≤ length out.old }
 {
     let list = list_rows(house, 0, 1024);
@@ -93,34 +105,35 @@ fn say_rows(out: &mut [u8], house: House)
         at += put_row(out, at, list.rows[i]);
         i += 1;
     }
-    say(&out[0..at]);
+    say(rt, &out[0..at])
 }
 
-fn say_next(n: u64) {
-    say(b" ");
-    say_number(n);
+fn say_next(rt: &impl Print, n: u64) -> io::Result<()> {
+    say(rt, b" ")?;
+    say_number(rt, n)
 }
 
-fn say_end(f: Feeding) {
+fn say_end(rt: &impl Print, f: Feeding) -> io::Result<()> {
     let last = f.last;
     let answer = last.answer;
     let found = calls::figures(last.house);
     let ended = end_feed(last.house, 0);
-    say_number(answers::number(answer) as u64);
-    say_next(f.taken);
-    say_next(answers::number(ended) as u64);
-    say_next(found.free as u64);
-    say_next(found.promised as u64);
-    say(b"\n");
+    say_number(rt, answers::number(answer) as u64)?;
+    say_next(rt, f.taken)?;
+    say_next(rt, answers::number(ended) as u64)?;
+    say_next(rt, found.free as u64)?;
+    say_next(rt, found.promised as u64)?;
+    say(rt, b"\n")
 }
 
-fn main() {
+fn main(rt: HostRuntime) -> io::Result<()> {
+    let mut stdin = rt.stdin();
     let mut carry = carry_buffer();
     let mut space = chunk_buffer();
-    let mut out = io::large_buffer();
-    let n = chunk_size();
-    let f = feed_all(opened(), &mut carry, &mut space[0..n]);
-    say_end(f);
+    let mut out = [0u8; 65536];
+    let n = chunk_size(&mut stdin);
+    let f = feed_all(&mut stdin, opened(), &mut carry, &mut space[0..n]);
+    say_end(&rt, f)?;
     let last = f.last;
-    say_rows(&mut out, last.house);
+    say_rows(&rt, &mut out, last.house)
 }

@@ -11,6 +11,7 @@ use lent::deliver_lent;
 use numbers::Order;
 use order::Place;
 use session::Standing;
+use std::io;
 use transcript::{say, say_number};
 
 // Records: ten thousand times 1,024 pairs.
@@ -148,12 +149,12 @@ fn run() -> Ran {
     )
 }
 
-fn main() {
+fn main(rt: HostRuntime) -> io::Result<()> {
     let r = run();
-    say_number(r.accepted);
-    say(b" ");
-    say_number(r.used as u64);
-    say(b" ");
-    say_number(r.results as u64);
-    say(b"\n");
+    say_number(&rt, r.accepted)?;
+    say(&rt, b" ")?;
+    say_number(&rt, r.used as u64)?;
+    say(&rt, b" ")?;
+    say_number(&rt, r.results as u64)?;
+    say(&rt, b"\n")
 }

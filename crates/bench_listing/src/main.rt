@@ -6,6 +6,7 @@ ghost use Rattle.std.specs.Prelude.{◌≡◌, ◌*◌, ◌≤◌, ◌<◌, leng
 ghost use Rattle.tally_lines.specs.Writing.{most_line};
 
 use house::Row;
+use std::io;
 use tally_lines::put_row;
 use transcript::{say, say_number};
 
@@ -62,9 +63,9 @@ fn list(out: &mut [u8], all: [Row; 1024]) -> usize
     at
 }
 
-fn main() {
+fn main(rt: HostRuntime) -> io::Result<()> {
     let all = rows();
-    let mut out = io::large_buffer();
+    let mut out = [0u8; 65536];
     let mut bytes: u64 = 0;
     let mut last: usize = 0;
     let mut turn: u64 = 0;
@@ -73,7 +74,7 @@ fn main() {
         bytes += last as u64;
         turn += 1;
     }
-    say_number(bytes);
-    say(b"\n");
-    say(&out[0..last]);
+    say_number(&rt, bytes)?;
+    say(&rt, b"\n")?;
+    say(&rt, &out[0..last])
 }

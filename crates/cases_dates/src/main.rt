@@ -20,20 +20,22 @@ ghost use Rattle.std.specs.Prelude.{◌≤◌, length};
 use input::{Found, next_line};
 use numerals::{Number, number_of, up_to};
 use script::word_end;
+use std::io;
+use std::io::Read;
 use transcript::say;
 
 // A number above the last time counts as the last time.
-fn say_written(word: &[u8]) {
-    say(b" ");
+fn say_written(rt: &impl Print, word: &[u8]) -> io::Result<()> {
+    say(rt, b" ")?;
     match number_of(word) {
-        Number::Is(n) => reading_back::say_date(up_to(n, 4294967295) as u32),
-        Number::Not => say(b"?"),
+        Number::Is(n) => reading_back::say_date(rt, up_to(n, 4294967295) as u32),
+        Number::Not => say(rt, b"?"),
     }
 }
 
-fn say_time(text: &[u8]) {
-    say(b" ");
-    reading_back::say_read(text);
+fn say_time(rt: &impl Print, text: &[u8]) -> io::Result<()> {
+    say(rt, b" ")?;
+    reading_back::say_read(rt, text)
 }
 
 // Where the text of a line starts: behind its verb and a space.
@@ -47,30 +49,30 @@ fn text_at(line: &[u8]) -> usize
     end
 }
 
-fn answer(verb: u8, text: &mut [u8]) {
+fn answer(rt: &impl Print, verb: u8, text: &mut [u8]) -> io::Result<()> {
     match verb {
-        b'm' => months_listed::say_months(),
-        b'w' => say_written(text),
-        b'r' => say_time(text),
-        b'c' => trying::say_cuts(text),
-        b'a' => trying::say_altered(text),
-        _ => say(b" ?"),
+        b'm' => months_listed::say_months(rt),
+        b'w' => say_written(rt, text),
+        b'r' => say_time(rt, text),
+        b'c' => trying::say_cuts(rt, text),
+        b'a' => trying::say_altered(rt, text),
+        _ => say(rt, b" ?"),
     }
 }
 
-fn play(line: &mut [u8]) {
-    say(line);
+fn play(rt: &impl Print, line: &mut [u8]) -> io::Result<()> {
+    say(rt, line)?;
     if line.len() == 0 {
-        return say(b"\n");
+        return say(rt, b"\n");
     }
     let verb = line[0];
     if verb == b'#' {
-        return say(b"\n");
+        return say(rt, b"\n");
     }
     let at = text_at(line);
-    say(b":");
-    answer(verb, &mut line[at..]);
-    say(b"\n");
+    say(rt, b":")?;
+    answer(rt, verb, &mut line[at..])?;
+    say(rt, b"\n")
 }
 
 fn has_ended(found: Found) -> bool {
@@ -82,24 +84,30 @@ fn has_ended(found: Found) -> bool {
 }
 
 // A proved loop has to end, and nothing says that the input does: the turns are a number that no run uses up.
-fn play_all(chunk: &mut [u8], line: &mut [u8]) {
+fn play_all(
+    rt: &impl Print,
+    stdin: &mut impl Read,
+    chunk: &mut [u8],
+    line: &mut [u8],
+) -> io::Result<()> {
     let mut input = input::begin();
     let mut turns = u64::MAX;
     while turns > 0 {
-        let next = next_line(input, chunk, line);
+        let next = next_line(stdin, input, chunk, line);
         let found = next.found;
         let long = next.long;
         if has_ended(found) {
-            return;
+            return Ok(());
         }
-        play(&mut line[0..long]);
+        play(rt, &mut line[0..long])?;
         input = next.input;
         turns -= 1;
     }
+    Ok(())
 }
 
-fn main() {
-    let mut chunk = io::large_buffer();
-    let mut line = io::buffer();
-    play_all(&mut chunk, &mut line);
+fn main(rt: HostRuntime) -> io::Result<()> {
+    let mut chunk = [0u8; 65536];
+    let mut line = [0u8; 4096];
+    play_all(&rt, &mut rt.stdin(), &mut chunk, &mut line)
 }

@@ -1,11 +1,12 @@
 // The date of a time, and the time of a date.
 use dates::{Dated, read_date, write_date};
+use std::io;
 use transcript::{say, say_number};
 
-pub(crate) fn say_read(text: &[u8]) {
+pub(crate) fn say_read(rt: &impl Print, text: &[u8]) -> io::Result<()> {
     match read_date(text) {
-        Dated::Time(t) => say_number(t as u64),
-        Dated::NotADate => say(b"no date"),
+        Dated::Time(t) => say_number(rt, t as u64),
+        Dated::NotADate => say(rt, b"no date"),
     }
 }
 
@@ -16,17 +17,18 @@ fn is_read_as(text: &[u8], t: u32) -> bool {
     }
 }
 
-fn say_back(text: &[u8], t: u32) {
-    say(text);
+fn say_back(rt: &impl Print, text: &[u8], t: u32) -> io::Result<()> {
+    say(rt, text)?;
     if !is_read_as(text, t) {
-        say(b" (");
-        say_read(text);
-        say(b")");
+        say(rt, b" (")?;
+        say_read(rt, text)?;
+        say(rt, b")")?;
     }
+    Ok(())
 }
 
-pub(crate) fn say_date(t: u32) {
+pub(crate) fn say_date(rt: &impl Print, t: u32) -> io::Result<()> {
     let mut out = [0u8; 20];
     let n = write_date(&mut out[..], t);
-    say_back(&out[..n], t);
+    say_back(rt, &out[..n], t)
 }

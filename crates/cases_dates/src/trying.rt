@@ -2,6 +2,7 @@
 ghost use Rattle.std.specs.Prelude.{◌≤◌, ◌<◌, length};
 
 use dates::{Dated, read_date};
+use std::io;
 use transcript::{say, say_number};
 
 fn is_date(text: &[u8]) -> bool {
@@ -11,15 +12,16 @@ fn is_date(text: &[u8]) -> bool {
     }
 }
 
-pub(crate) fn say_cuts(text: &[u8]) {
+pub(crate) fn say_cuts(rt: &impl Print, text: &[u8]) -> io::Result<()> {
     let mut n: usize = 0;
     while n < text.len() {
         n += 1;
         if is_date(&text[0..n]) {
-            say(b" ");
-            say_number(n as u64);
+            say(rt, b" ")?;
+            say_number(rt, n as u64)?;
         }
     }
+    Ok(())
 }
 
 fn as_number(yes: bool) -> u64
@@ -47,11 +49,12 @@ fn dates_at(text: &mut [u8], i: usize) -> u64
     n
 }
 
-pub(crate) fn say_altered(text: &mut [u8]) {
+pub(crate) fn say_altered(rt: &impl Print, text: &mut [u8]) -> io::Result<()> {
     let mut i: usize = 0;
     while i < text.len() {
-        say(b" ");
-        say_number(dates_at(text, i));
+        say(rt, b" ")?;
+        say_number(rt, dates_at(text, i))?;
         i += 1;
     }
+    Ok(())
 }

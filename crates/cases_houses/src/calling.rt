@@ -6,6 +6,7 @@ use deliveries::deliver;
 use feeding::{end_feed, feed};
 use house::House;
 use reports::judge_report;
+use std::io;
 use transcript::{say, say_answer};
 
 fn wide(answer: Answer) -> u64 {
@@ -13,18 +14,18 @@ fn wide(answer: Answer) -> u64 {
 }
 
 // The figures are told of a sound house only: of another there are none.
-fn say_figures(h: House) {
+fn say_figures(rt: &impl Print, h: House) -> io::Result<()> {
     let f = figures(h);
     let answer = f.answer;
     let n = wide(answer);
     let values = [n, f.free as u64, f.promised as u64, 0, 0, 0, 0, 0];
     if n == 0 {
-        return say_values(b", figures |, | free, | promised\n", values);
+        return say_values(rt, b", figures |, | free, | promised\n", values);
     }
-    say_values(b", figures |\n", values);
+    say_values(rt, b", figures |\n", values)
 }
 
-pub(crate) fn say_calls(h: House) {
+pub(crate) fn say_calls(rt: &impl Print, h: House) -> io::Result<()> {
     let opened = open_slot(h, 15, 0);
     let open = opened.answer;
     let delivered = deliver(h, 0, b"");
@@ -43,24 +44,24 @@ pub(crate) fn say_calls(h: House) {
         0,
         0,
     ];
-    say_values(b" open |, deliver |, report |, close |", values);
-    say_figures(h);
+    say_values(rt, b" open |, deliver |, report |, close |", values)?;
+    say_figures(rt, h)
 }
 
 // An empty chunk fed to slot 0 over a carry of noughts, and the end of feeding there.
-pub(crate) fn say_fed(h: House) {
+pub(crate) fn say_fed(rt: &impl Print, h: House) -> io::Result<()> {
     let mut carry = [0u8; House::CARRY];
     let fed = feed(h, 0, &mut carry, b"");
     let feeding = fed.answer;
     let ending = end_feed(h, 0);
     let values = [wide(feeding), fed.taken as u64, wide(ending), 0, 0, 0, 0, 0];
-    say_values(b" feed |, taken |, end |\n", values);
+    say_values(rt, b" feed |, taken |, end |\n", values)
 }
 
-pub(crate) fn say_delivered(h: House, rec: &[u8]) {
+pub(crate) fn say_delivered(rt: &impl Print, h: House, rec: &[u8]) -> io::Result<()> {
     let delivered = deliver(h, 0, rec);
     let answer = delivered.answer;
-    say(b" ");
-    say_answer(answer);
-    say(b"\n");
+    say(rt, b" ")?;
+    say_answer(rt, answer)?;
+    say(rt, b"\n")
 }

@@ -23,50 +23,59 @@ use calling::{say_calls, say_delivered, say_fed};
 use case_lines::next_call;
 use house::House;
 use setting::{with_held, with_keys, with_rows, with_slot};
+use std::io;
+use std::io::Read;
 use transcript::say;
 
 // What is asked of a house.
-fn ask(house: House, verb: u8, bytes: &[u8]) {
+fn ask(rt: &impl Print, house: House, verb: u8, bytes: &[u8]) -> io::Result<()> {
     match verb {
-        0 => {}
-        b'c' => say_calls(house),
-        b'd' => say_delivered(house, bytes),
-        b'p' => say_fed(house),
-        _ => say(b"?\n"),
+        0 => Ok(()),
+        b'c' => say_calls(rt, house),
+        b'd' => say_delivered(rt, house, bytes),
+        b'p' => say_fed(rt, house),
+        _ => say(rt, b"?\n"),
     }
 }
 
 // The house after a line.
-fn play(house: House, verb: u8, bytes: &[u8]) -> House {
+fn play(rt: &impl Print, house: House, verb: u8, bytes: &[u8]) -> io::Result<House> {
     match verb {
-        b'f' => House::fresh(),
-        b's' => with_slot(house, bytes),
-        b'r' => with_rows(house, bytes),
-        b'k' => with_keys(house, bytes),
-        b'h' => with_held(house, bytes),
+        b'f' => Ok(House::fresh()),
+        b's' => Ok(with_slot(house, bytes)),
+        b'r' => Ok(with_rows(house, bytes)),
+        b'k' => Ok(with_keys(house, bytes)),
+        b'h' => Ok(with_held(house, bytes)),
         _ => {
-            ask(house, verb, bytes);
-            house
+            ask(rt, house, verb, bytes)?;
+            Ok(house)
         }
     }
 }
 
 // A proved loop has to end, and nothing says that the input does: the turns are a number that no run uses up.
-fn play_all(chunk: &mut [u8], line: &mut [u8], bytes: &mut [u8]) {
+fn play_all(
+    rt: &impl Print,
+    stdin: &mut impl Read,
+    chunk: &mut [u8],
+    line: &mut [u8],
+    bytes: &mut [u8],
+) -> io::Result<()> {
     let mut house = House::fresh();
     let mut call = case_lines::begin();
     let mut turns = u64::MAX;
     while turns > 0 && !call.ended {
-        call = next_call(call, chunk, line, bytes);
+        call = next_call(rt, stdin, call, chunk, line, bytes)?;
         let n = call.bytes;
-        house = play(house, call.verb, &bytes[0..n]);
+        house = play(rt, house, call.verb, &bytes[0..n])?;
         turns -= 1;
     }
+    Ok(())
 }
 
-fn main() {
-    let mut chunk = io::large_buffer();
-    let mut line = io::buffer();
-    let mut bytes = io::buffer();
-    play_all(&mut chunk, &mut line, &mut bytes);
+fn main(rt: HostRuntime) -> io::Result<()> {
+    let mut chunk = [0u8; 65536];
+    let mut line = [0u8; 4096];
+    let mut bytes = [0u8; 4096];
+    play_all(&rt, &mut rt.stdin(), &mut chunk, &mut line, &mut bytes)
 }

@@ -4,6 +4,7 @@ use case_lines::{MISSING, say_values};
 use count_bodies::{Bin, Pcr};
 use kinds::Kind;
 use numbers::Order;
+use std::io;
 use transcript::say;
 use values::{Naming, Optional};
 
@@ -14,7 +15,7 @@ fn value(field: Optional) -> u64 {
     }
 }
 
-fn say_pcr(p: Pcr) {
+fn say_pcr(rt: &impl Print, p: Pcr) -> io::Result<()> {
     let retest = p.retest;
     let abort = p.abort;
     let good = p.good;
@@ -30,9 +31,10 @@ fn say_pcr(p: Pcr) {
         0,
     ];
     say_values(
+        rt,
         b" PCR head | site | parts | retest | abort | good | functional |\n",
         values,
-    );
+    )
 }
 
 // A name's length and place.
@@ -43,7 +45,7 @@ fn naming(name: Naming) -> [u64; 2] {
     }
 }
 
-fn say_bin(b: Bin) {
+fn say_bin(rt: &impl Print, b: Bin) -> io::Result<()> {
     let pf = b.pf;
     let name = b.name;
     let n = naming(name);
@@ -58,31 +60,35 @@ fn say_bin(b: Bin) {
         0,
     ];
     if b.soft {
-        say(b" S");
+        say(rt, b" S")?;
     } else {
-        say(b" H");
+        say(rt, b" H")?;
     }
     say_values(
+        rt,
         b"BR head | site | bin | count | P/F | name | at |\n",
         values,
-    );
+    )
 }
 
-fn say_record(record: Record) {
+fn say_record(rt: &impl Print, record: Record) -> io::Result<()> {
     match record {
         Record::Far(f) => say_values(
+            rt,
             b" FAR CPU_TYPE | STDF_VER |\n",
             [f.cpu as u64, f.version as u64, 0, 0, 0, 0, 0, 0],
         ),
-        Record::Mir => say(b" MIR\n"),
-        Record::Mrr => say(b" MRR\n"),
-        Record::Pcr(p) => say_pcr(p),
-        Record::Bin(b) => say_bin(b),
+        Record::Mir => say(rt, b" MIR\n"),
+        Record::Mrr => say(rt, b" MRR\n"),
+        Record::Pcr(p) => say_pcr(rt, p),
+        Record::Bin(b) => say_bin(rt, b),
         Record::Pir(p) => say_values(
+            rt,
             b" PIR head | site |\n",
             [p.head as u64, p.site as u64, 0, 0, 0, 0, 0, 0],
         ),
         Record::Prr(p) => say_values(
+            rt,
             b" PRR head | site | flags | hard bin |\n",
             [
                 p.head as u64,
@@ -96,20 +102,22 @@ fn say_record(record: Record) {
             ],
         ),
         Record::Wir(w) => say_values(
+            rt,
             b" WIR head | group |\n",
             [w.head as u64, w.group as u64, 0, 0, 0, 0, 0, 0],
         ),
         Record::Wrr(w) => say_values(
+            rt,
             b" WRR head | group |\n",
             [w.head as u64, w.group as u64, 0, 0, 0, 0, 0, 0],
         ),
-        Record::Unread => say(b" unread\n"),
+        Record::Unread => say(rt, b" unread\n"),
     }
 }
 
-pub(crate) fn say_body(order: Order, kind: Kind, body: &[u8]) {
+pub(crate) fn say_body(rt: &impl Print, order: Order, kind: Kind, body: &[u8]) -> io::Result<()> {
     match read_body(order, kind, body) {
-        Reading::Fits(record) => say_record(record),
-        Reading::Misfit => say(b" 7\n"),
+        Reading::Fits(record) => say_record(rt, record),
+        Reading::Misfit => say(rt, b" 7\n"),
     }
 }

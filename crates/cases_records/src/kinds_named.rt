@@ -1,5 +1,5 @@
 // Kinds by type and subtype, and where each takes a stream from each place.
-ghost use Rattle.std.specs.Prelude.{◌+◌, ◌≤◌};
+ghost use Rattle.std.specs.Prelude.{◌+◌, ◌≤◌, IfOk};
 
 use crate::lengths::run_at;
 use crate::sessions::say_number_cell;
@@ -7,6 +7,7 @@ use case_lines::say_values;
 use fixtures::place_at;
 use kinds::{Kind, kind_of};
 use order::{Step, next_place};
+use std::io;
 use transcript::{say, say_cell, say_kind, say_kind_wide};
 
 // What a line tells apart.
@@ -28,47 +29,47 @@ fn class_of(typ: u8, s: usize) -> u8 {
     }
 }
 
-fn say_named(typ: u8, s: usize) {
-    say_values(b" | ", [s as u64, 0, 0, 0, 0, 0, 0, 0]);
-    say_kind(kind_of(typ, (s % 256) as u8));
+fn say_named(rt: &impl Print, typ: u8, s: usize) -> io::Result<()> {
+    say_values(rt, b" | ", [s as u64, 0, 0, 0, 0, 0, 0, 0])?;
+    say_kind(rt, kind_of(typ, (s % 256) as u8))
 }
 
 // A run of custom subtypes that ends before s, one longer with s, or said where s is not custom.
-fn subtype_at(typ: u8, s: usize, run: usize) -> usize
+fn subtype_at(rt: &impl Print, typ: u8, s: usize, run: usize) -> io::Result<usize>
     requires { (s ≤ 65536) × (run ≤ s) }
-    ensures { result ≤ s + 1 }
+    ensures { IfOk result (λ r. r ≤ s + 1) }
 {
     let class = class_of(typ, s);
-    let next = run_at(class == CUSTOM, s, run, b" custom");
+    let next = run_at(rt, class == CUSTOM, s, run, b" custom")?;
     if class == NAMED {
-        say_named(typ, s);
+        say_named(rt, typ, s)?;
     }
-    next
+    Ok(next)
 }
 
-pub(crate) fn say_type(typ: u8) {
+pub(crate) fn say_type(rt: &impl Print, typ: u8) -> io::Result<()> {
     let mut s: usize = 0;
     let mut run: usize = 0;
     while s <= 256 {
-        run = subtype_at(typ, s, run);
+        run = subtype_at(rt, typ, s, run)?;
         s += 1;
     }
-    say(b"\n");
+    say(rt, b"\n")
 }
 
-fn say_step(step: Step) {
+fn say_step(rt: &impl Print, step: Step) -> io::Result<()> {
     match step {
-        Step::To(place) => say_cell(place),
-        Step::OutOfPlace => say_number_cell(8),
+        Step::To(place) => say_cell(rt, place),
+        Step::OutOfPlace => say_number_cell(rt, 8),
     }
 }
 
-pub(crate) fn say_steps(kind: Kind) {
-    say_kind_wide(kind);
+pub(crate) fn say_steps(rt: &impl Print, kind: Kind) -> io::Result<()> {
+    say_kind_wide(rt, kind)?;
     let mut i: u8 = 0;
     while i < 6 {
-        say_step(next_place(place_at(i), kind));
+        say_step(rt, next_place(place_at(i), kind))?;
         i += 1;
     }
-    say(b"\n");
+    say(rt, b"\n")
 }

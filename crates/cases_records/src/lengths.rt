@@ -1,11 +1,12 @@
 // Whether a body fits, and which lengths of it do: it is cut at every length, so inside each field and at each field's
 // end.
-ghost use Rattle.std.specs.Prelude.{◌+◌, ◌≤◌};
+ghost use Rattle.std.specs.Prelude.{◌+◌, ◌≤◌, IfOk};
 
 use bodies::{Reading, read_body};
 use case_lines::say_values;
 use kinds::Kind;
 use numbers::Order;
+use std::io;
 use transcript::say;
 
 // Some past the longest body, 7,695 bytes.
@@ -18,11 +19,11 @@ fn fits(order: Order, kind: Kind, body: &[u8]) -> bool {
     }
 }
 
-pub(crate) fn say_fit(order: Order, kind: Kind, body: &[u8]) {
+pub(crate) fn say_fit(rt: &impl Print, order: Order, kind: Kind, body: &[u8]) -> io::Result<()> {
     if fits(order, kind, body) {
-        return say(b" 0\n");
+        return say(rt, b" 0\n");
     }
-    say(b" 7\n");
+    say(rt, b" 7\n")
 }
 
 // Nothing is longer than the bytes that there are.
@@ -33,37 +34,48 @@ fn fits_at(order: Order, kind: Kind, bytes: &[u8], n: usize) -> bool {
     fits(order, kind, &bytes[0..n])
 }
 
-fn say_run(first: usize, last: usize, what: &[u8]) {
+fn say_run(rt: &impl Print, first: usize, last: usize, what: &[u8]) -> io::Result<()> {
     let values = [first as u64, last as u64, 0, 0, 0, 0, 0, 0];
     if first < last {
-        say_values(b" | to |", values);
+        say_values(rt, b" | to |", values)?;
     } else {
-        say_values(b" |", values);
+        say_values(rt, b" |", values)?;
     }
-    say(what);
+    say(rt, what)
 }
 
 // A run of numbers that ends before n, one longer with n if n is in it, or said if it is not.
-pub(crate) fn run_at(within: bool, n: usize, run: usize, what: &[u8]) -> usize
+pub(crate) fn run_at(
+    rt: &impl Print,
+    within: bool,
+    n: usize,
+    run: usize,
+    what: &[u8],
+) -> io::Result<usize>
     requires { (n ≤ 65536) × (run ≤ n) }
-    ensures { result ≤ n + 1 }
+    ensures { IfOk result (λ r. r ≤ n + 1) }
 {
     if within {
-        return run + 1;
+        return Ok(run + 1);
     }
     if 0 < run {
-        say_run(n - run, n - 1, what);
+        say_run(rt, n - run, n - 1, what)?;
     }
-    0
+    Ok(0)
 }
 
 // Every length that fits, up to some past the longest body.
-pub(crate) fn say_lengths(order: Order, kind: Kind, bytes: &[u8]) {
+pub(crate) fn say_lengths(
+    rt: &impl Print,
+    order: Order,
+    kind: Kind,
+    bytes: &[u8],
+) -> io::Result<()> {
     let mut n: usize = 0;
     let mut run: usize = 0;
     while n < PAST {
-        run = run_at(fits_at(order, kind, bytes, n), n, run, b"");
+        run = run_at(rt, fits_at(order, kind, bytes, n), n, run, b"")?;
         n += 1;
     }
-    say(b"\n");
+    say(rt, b"\n")
 }

@@ -24,63 +24,72 @@ use case_lines::next_call;
 use fixtures::{byte_at, order_at, session_of};
 use kinds::kind_of;
 use session::Session;
+use std::io;
+use std::io::Read;
 use transcript::say;
 
 // What is asked of a body, which stands behind CPU, TYP and SUB.
-fn ask_body(verb: u8, bytes: &[u8]) {
+fn ask_body(rt: &impl Print, verb: u8, bytes: &[u8]) -> io::Result<()> {
     if bytes.len() < 3 {
-        return say(b"?\n");
+        return say(rt, b"?\n");
     }
     let order = order_at(bytes[0]);
     let kind = kind_of(bytes[1], bytes[2]);
     let body = &bytes[3..];
     match verb {
-        b'f' => lengths::say_fit(order, kind, body),
-        b'l' => lengths::say_lengths(order, kind, body),
-        b'b' => bodies_read::say_body(order, kind, body),
-        _ => say(b"?\n"),
+        b'f' => lengths::say_fit(rt, order, kind, body),
+        b'l' => lengths::say_lengths(rt, order, kind, body),
+        b'b' => bodies_read::say_body(rt, order, kind, body),
+        _ => say(rt, b"?\n"),
     }
 }
 
-fn ask(verb: u8, bytes: &[u8]) {
+fn ask(rt: &impl Print, verb: u8, bytes: &[u8]) -> io::Result<()> {
     match verb {
-        0 => {}
-        b't' => kinds_named::say_type(byte_at(bytes, 0)),
-        b'o' => kinds_named::say_steps(kind_of(byte_at(bytes, 0), byte_at(bytes, 1))),
-        b'p' => sessions::say_places(bytes),
-        _ => ask_body(verb, bytes),
+        0 => Ok(()),
+        b't' => kinds_named::say_type(rt, byte_at(bytes, 0)),
+        b'o' => kinds_named::say_steps(rt, kind_of(byte_at(bytes, 0), byte_at(bytes, 1))),
+        b'p' => sessions::say_places(rt, bytes),
+        _ => ask_body(rt, verb, bytes),
     }
 }
 
 // The session after a call: most leave it.
-fn play(session: Session, verb: u8, bytes: &[u8]) -> Session {
+fn play(rt: &impl Print, session: Session, verb: u8, bytes: &[u8]) -> io::Result<Session> {
     match verb {
-        b'n' => Session::begin(),
-        b's' => session_of(bytes),
-        b'd' => sessions::deliver(session, bytes),
+        b'n' => Ok(Session::begin()),
+        b's' => Ok(session_of(bytes)),
+        b'd' => sessions::deliver(rt, session, bytes),
         _ => {
-            ask(verb, bytes);
-            session
+            ask(rt, verb, bytes)?;
+            Ok(session)
         }
     }
 }
 
 // A proved loop has to end, and nothing says that the input does: the turns are a number that no run uses up.
-fn play_all(chunk: &mut [u8], line: &mut [u8], bytes: &mut [u8]) {
+fn play_all(
+    rt: &impl Print,
+    stdin: &mut impl Read,
+    chunk: &mut [u8],
+    line: &mut [u8],
+    bytes: &mut [u8],
+) -> io::Result<()> {
     let mut session = Session::begin();
     let mut call = case_lines::begin();
     let mut turns = u64::MAX;
     while turns > 0 && !call.ended {
-        call = next_call(call, chunk, line, bytes);
+        call = next_call(rt, stdin, call, chunk, line, bytes)?;
         let n = call.bytes;
-        session = play(session, call.verb, &bytes[0..n]);
+        session = play(rt, session, call.verb, &bytes[0..n])?;
         turns -= 1;
     }
+    Ok(())
 }
 
-fn main() {
-    let mut chunk = io::large_buffer();
-    let mut line = io::buffer();
-    let mut bytes = io::large_buffer();
-    play_all(&mut chunk, &mut line, &mut bytes);
+fn main(rt: HostRuntime) -> io::Result<()> {
+    let mut chunk = [0u8; 65536];
+    let mut line = [0u8; 4096];
+    let mut bytes = [0u8; 65536];
+    play_all(&rt, &mut rt.stdin(), &mut chunk, &mut line, &mut bytes)
 }

@@ -11,6 +11,7 @@ use house::{House, Reported, Row, Slot};
 use order::Place;
 use reports::report;
 use session::Session;
+use std::io;
 use transcript::{say, say_answer, say_number};
 
 // A slice of two rows after a report, and what the report answered.
@@ -72,18 +73,18 @@ fn house_of(used: usize) -> House {
     h
 }
 
-fn say_row(row: Row) {
-    say(b" ");
-    say_number(row.head as u64);
-    say(b"/");
-    say_number(row.site as u64);
-    say(b"/");
-    say_number(row.bin as u64);
-    say(b"=");
-    say_number(row.count as u64);
+fn say_row(rt: &impl Print, row: Row) -> io::Result<()> {
+    say(rt, b" ")?;
+    say_number(rt, row.head as u64)?;
+    say(rt, b"/")?;
+    say_number(rt, row.site as u64)?;
+    say(rt, b"/")?;
+    say_number(rt, row.bin as u64)?;
+    say(rt, b"=")?;
+    say_number(rt, row.count as u64)
 }
 
-fn line(name: &[u8], h: House, slot: u32) {
+fn line(rt: &impl Print, name: &[u8], h: House, slot: u32) -> io::Result<()> {
     let old = Row {
         head: 9,
         site: 9,
@@ -93,24 +94,24 @@ fn line(name: &[u8], h: House, slot: u32) {
     let pair = lend_pair([old; 2], h, slot);
     let reported = pair.reported;
     let answer = reported.answer;
-    say(name);
-    say_answer(answer);
-    say(b", rows ");
-    say_number(reported.rows as u64);
-    say(b":");
-    say_row(pair.rows[0]);
-    say_row(pair.rows[1]);
-    say(b"\n");
+    say(rt, name)?;
+    say_answer(rt, answer)?;
+    say(rt, b", rows ")?;
+    say_number(rt, reported.rows as u64)?;
+    say(rt, b":")?;
+    say_row(rt, pair.rows[0])?;
+    say_row(rt, pair.rows[1])?;
+    say(rt, b"\n")
 }
 
 // With five rows in use slot 2 has accepted six PRRs and holds no row: that house isn't sound.
-fn main() {
+fn main(rt: HostRuntime) -> io::Result<()> {
     let h = house_of(6);
-    line(b"three rows: ", h, 0);
-    line(b"two rows: ", h, 1);
-    line(b"one row: ", h, 2);
-    line(b"no rows: ", h, 3);
-    line(b"closed slot: ", h, 4);
-    line(b"slot 16: ", h, 16);
-    line(b"house not sound: ", house_of(5), 1);
+    line(&rt, b"three rows: ", h, 0)?;
+    line(&rt, b"two rows: ", h, 1)?;
+    line(&rt, b"one row: ", h, 2)?;
+    line(&rt, b"no rows: ", h, 3)?;
+    line(&rt, b"closed slot: ", h, 4)?;
+    line(&rt, b"slot 16: ", h, 16)?;
+    line(&rt, b"house not sound: ", house_of(5), 1)
 }

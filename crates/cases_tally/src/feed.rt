@@ -3,6 +3,7 @@ ghost use Rattle.std.specs.Prelude.{◌≡◌, ◌+◌, ◌≤◌, ◌<◌, leng
 ghost use Rattle.cases_tally.specs.Feed.{Ready, ReadyAt};
 
 use following::{Stream, begin, follow};
+use std::io;
 use tallying::finish;
 use transcript::say;
 
@@ -64,11 +65,11 @@ pub(crate) fn start() -> Stream
 }
 
 // What the tally program would write, below the stream's name.
-pub(crate) fn end(s: Stream, buf: &[u8])
+pub(crate) fn end(rt: &impl Print, s: Stream, buf: &[u8]) -> io::Result<()>
     requires { Ready s buf.now }
 {
-    let mut text = io::large_buffer();
+    let mut text = [0u8; 65536];
     let n = finish(s, buf, &mut text);
-    say(b"\n");
-    say(&text[0..n]);
+    say(rt, b"\n")?;
+    say(rt, &text[0..n])
 }

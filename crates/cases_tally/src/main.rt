@@ -9,12 +9,14 @@
 
 mod feed;
 
-ghost use Rattle.std.specs.Prelude.{◌≤◌};
+ghost use Rattle.std.specs.Prelude.{◌≤◌, IfOk};
 ghost use Rattle.cases_tally.specs.Feed.{Ready};
 
 use case_lines::next_call;
 use feed::{end, put, start};
 use following::Stream;
+use std::io;
+use std::io::Read;
 use transcript::say;
 
 fn wide(b: u8) -> usize
@@ -39,47 +41,63 @@ fn put_cut(s: Stream, buf: &mut [u8], bytes: &[u8]) -> Stream
 }
 
 // A verb that is none of these is said as `?`; 0 is no verb.
-fn no_call(verb: u8) {
+fn no_call(rt: &impl Print, verb: u8) -> io::Result<()> {
     if verb != 0 {
-        say(b"?\n");
+        return say(rt, b"?\n");
     }
+    Ok(())
 }
 
-fn play(s: Stream, buf: &mut [u8], verb: u8, bytes: &[u8]) -> Stream
+fn play(rt: &impl Print, s: Stream, buf: &mut [u8], verb: u8, bytes: &[u8]) -> io::Result<Stream>
     requires { Ready s buf.old }
-    ensures { Ready result buf.new }
+    ensures { IfOk result (λ r. Ready r buf.new) }
 {
     match verb {
-        b'n' => start(),
-        b'p' => put_cut(s, buf, bytes),
+        b'n' => Ok(start()),
+        b'p' => Ok(put_cut(s, buf, bytes)),
         b'e' => {
-            end(s, buf);
-            s
+            end(rt, s, buf)?;
+            Ok(s)
         }
         _ => {
-            no_call(verb);
-            s
+            no_call(rt, verb)?;
+            Ok(s)
         }
     }
 }
 
 // A proved loop has to end, and nothing says that the input does: the turns are a number that no run uses up.
-fn play_all(chunk: &mut [u8], line: &mut [u8], bytes: &mut [u8], buf: &mut [u8]) {
+fn play_all(
+    rt: &impl Print,
+    stdin: &mut impl Read,
+    chunk: &mut [u8],
+    line: &mut [u8],
+    bytes: &mut [u8],
+    buf: &mut [u8],
+) -> io::Result<()> {
     let mut s = start();
     let mut call = case_lines::begin();
     let mut turns = u64::MAX;
     while turns > 0 && !call.ended {
-        call = next_call(call, chunk, line, bytes);
+        call = next_call(rt, stdin, call, chunk, line, bytes)?;
         let n = call.bytes;
-        s = play(s, buf, call.verb, &bytes[0..n]);
+        s = play(rt, s, buf, call.verb, &bytes[0..n])?;
         turns -= 1;
     }
+    Ok(())
 }
 
-fn main() {
-    let mut chunk = io::large_buffer();
-    let mut line = io::buffer();
-    let mut bytes = io::buffer();
-    let mut buf = io::buffer();
-    play_all(&mut chunk, &mut line, &mut bytes, &mut buf);
+fn main(rt: HostRuntime) -> io::Result<()> {
+    let mut chunk = [0u8; 65536];
+    let mut line = [0u8; 4096];
+    let mut bytes = [0u8; 4096];
+    let mut buf = [0u8; 4096];
+    play_all(
+        &rt,
+        &mut rt.stdin(),
+        &mut chunk,
+        &mut line,
+        &mut bytes,
+        &mut buf,
+    )
 }

@@ -1,8 +1,10 @@
 // The calls, for an operator. Each line begins with `#`: where a transcript is read again, it is a comment.
+use std::io;
 use transcript::say;
 
-pub(crate) fn say_help() {
+pub(crate) fn say_help(rt: &impl Print) -> io::Result<()> {
     say(
+        rt,
         b"# fresh                        0\n\
         # open SLOT FLOOR              N\n\
         # deliver SLOT HEX             N, or: 12 HEAD SITE\n\
@@ -14,5 +16,5 @@ pub(crate) fn say_help() {
         # write ORDER AT LENGTH HEX    N OUT, or: 0 BYTES OUT\n\
         # read ORDER AT LENGTH HEX     N OUT, or: 0 BYTES OUT\n\
         # help                         these lines\n",
-    );
+    )
 }

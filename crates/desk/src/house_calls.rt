@@ -7,71 +7,95 @@ use answers::Answer;
 use asked_calls::Call;
 use house::{House, Row};
 use plays::play;
+use std::io;
 use transcript::{say, say_answer, say_number};
 
-fn say_row(row: Row) {
-    say(b" ");
-    say_number(row.head as u64);
-    say(b"/");
-    say_number(row.site as u64);
-    say(b"/");
-    say_number(row.bin as u64);
-    say(b"=");
-    say_number(row.count as u64);
+fn say_row(rt: &impl Print, row: Row) -> io::Result<()> {
+    say(rt, b" ")?;
+    say_number(rt, row.head as u64)?;
+    say(rt, b"/")?;
+    say_number(rt, row.site as u64)?;
+    say(rt, b"/")?;
+    say_number(rt, row.bin as u64)?;
+    say(rt, b"=")?;
+    say_number(rt, row.count as u64)
 }
 
 // How many rows there are, and the rows.
-fn say_rows(rows: [Row; 1024], count: usize)
+fn say_rows(rt: &impl Print, rows: [Row; 1024], count: usize) -> io::Result<()>
     requires { count ≤ 1024 }
 {
-    say(b" ");
-    say_number(count as u64);
+    say(rt, b" ")?;
+    say_number(rt, count as u64)?;
     let mut i: usize = 0;
     while i < count {
-        say_row(rows[i]);
+        say_row(rt, rows[i])?;
         i += 1;
     }
+    Ok(())
 }
 
-fn say_figures(free: u32, promised: u32) {
-    say(b" ");
-    say_number(free as u64);
-    say(b" ");
-    say_number(promised as u64);
+fn say_figures(rt: &impl Print, free: u32, promised: u32) -> io::Result<()> {
+    say(rt, b" ")?;
+    say_number(rt, free as u64)?;
+    say(rt, b" ")?;
+    say_number(rt, promised as u64)
 }
 
 // What a call that is done found, if it asked for something.
-fn say_found(call: Call, free: u32, promised: u32, count: usize, rows: [Row; 1024])
+fn say_found(
+    rt: &impl Print,
+    call: Call,
+    free: u32,
+    promised: u32,
+    count: usize,
+    rows: [Row; 1024],
+) -> io::Result<()>
     requires { count ≤ 1024 }
 {
     match call {
-        Call::Report(_, _) => say_rows(rows, count),
-        Call::Figures => say_figures(free, promised),
-        _ => say(b""),
+        Call::Report(_, _) => say_rows(rt, rows, count),
+        Call::Figures => say_figures(rt, free, promised),
+        _ => Ok(()),
     }
 }
 
 // How many bytes of its chunk a feed took, whatever it is answered.
-fn say_taken(call: Call, taken: usize) {
+fn say_taken(rt: &impl Print, call: Call, taken: usize) -> io::Result<()> {
     match call {
         Call::Feed(_, _) => {
-            say(b" ");
-            say_number(taken as u64);
+            say(rt, b" ")?;
+            say_number(rt, taken as u64)
         }
-        _ => say(b""),
+        _ => Ok(()),
     }
 }
 
-fn say_played(call: Call, answer: Answer, free: u32, promised: u32, count: usize, rows: [Row; 1024])
+fn say_played(
+    rt: &impl Print,
+    call: Call,
+    answer: Answer,
+    free: u32,
+    promised: u32,
+    count: usize,
+    rows: [Row; 1024],
+) -> io::Result<()>
     requires { count ≤ 1024 }
 {
-    say_answer(answer);
+    say_answer(rt, answer)?;
     if answers::number(answer) == 0 {
-        say_found(call, free, promised, count, rows);
+        return say_found(rt, call, free, promised, count, rows);
     }
+    Ok(())
 }
 
-pub(crate) fn house_call(house: House, call: Call, bytes: &[u8], carries: &mut [u8]) -> House
+pub(crate) fn house_call(
+    rt: &impl Print,
+    house: House,
+    call: Call,
+    bytes: &[u8],
+    carries: &mut [u8],
+) -> io::Result<House>
     requires { length carries.old ≡ 1048640 }
 {
     let part = part_for(call);
@@ -80,8 +104,8 @@ pub(crate) fn house_call(house: House, call: Call, bytes: &[u8], carries: &mut [
     let done = play(house, call, bytes, &mut carries[from..end]);
     let answer = done.answer;
     let rows = done.rows;
-    say_played(call, answer, done.free, done.promised, done.count, rows);
-    say_taken(call, done.taken);
-    say(b"\n");
-    done.house
+    say_played(rt, call, answer, done.free, done.promised, done.count, rows)?;
+    say_taken(rt, call, done.taken)?;
+    say(rt, b"\n")?;
+    Ok(done.house)
 }

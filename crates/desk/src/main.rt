@@ -31,6 +31,8 @@ mod carries;
 mod help;
 mod house_calls;
 
-fn main() {
-    answering::answer_all();
+use std::io;
+
+fn main(rt: HostRuntime) -> io::Result<()> {
+    answering::answer_all(&rt, &mut rt.stdin())
 }

@@ -9,6 +9,7 @@ ghost use Rattle.input.specs.Lines.{up_to};
 
 use answers::Answer;
 use output::{Written, put_part};
+use std::io::Read;
 
 // Of the first `got` bytes of the chunk the last `left` are still to be taken.
 #[derive(Clone, Copy)]
@@ -118,11 +119,10 @@ fn take_part(g: Gathered, line: &mut [u8], bytes: &[u8]) -> Gathered
 }
 
 // Reads once. A read that gives nothing, or fails, is the end of the input.
-fn read_more(g: Gathered, chunk: &mut [u8]) -> Gathered
+fn read_more(stdin: &mut impl Read, g: Gathered, chunk: &mut [u8]) -> Gathered
     ensures { result.long ≡ g.long }
 {
-    let answer = libc::read(0, chunk);
-    let got = io::count(answer, chunk);
+    let got = stdin.read(chunk).unwrap_or(0);
     Gathered {
         got,
         left: got,
@@ -134,27 +134,27 @@ fn read_more(g: Gathered, chunk: &mut [u8]) -> Gathered
 }
 
 // The bytes that are left of the chunk, or those of the next one.
-fn take_more(g: Gathered, chunk: &mut [u8], line: &mut [u8]) -> Gathered
+fn take_more(stdin: &mut impl Read, g: Gathered, chunk: &mut [u8], line: &mut [u8]) -> Gathered
     requires { g.long ≤ length line.old }
     ensures { result.long ≤ length line.new }
 {
     let got = g.got;
     let left = g.left;
     if left == 0 {
-        return read_more(g, chunk);
+        return read_more(stdin, g, chunk);
     }
     if got < left {
-        return read_more(g, chunk);
+        return read_more(stdin, g, chunk);
     }
     if chunk.len() < got {
-        return read_more(g, chunk);
+        return read_more(stdin, g, chunk);
     }
     let from = got - left;
     take_part(g, line, &chunk[from..got])
 }
 
 // A proved loop has to end, and nothing says that the input does: the turns are a number that no run uses up.
-fn take_line(input: Input, chunk: &mut [u8], line: &mut [u8]) -> Gathered
+fn take_line(stdin: &mut impl Read, input: Input, chunk: &mut [u8], line: &mut [u8]) -> Gathered
     ensures { result.long ≤ length line.new }
 {
     let mut g = Gathered {
@@ -167,7 +167,7 @@ fn take_line(input: Input, chunk: &mut [u8], line: &mut [u8]) -> Gathered
     };
     let mut turns = u64::MAX;
     while turns > 0 && g.going {
-        g = take_more(g, chunk, line);
+        g = take_more(stdin, g, chunk, line);
         turns -= 1;
     }
     g
@@ -185,10 +185,10 @@ fn found_of(g: Gathered) -> Found {
 }
 
 // The next line, at the start of the lent line.
-pub fn next_line(input: Input, chunk: &mut [u8], line: &mut [u8]) -> Next
+pub fn next_line(stdin: &mut impl Read, input: Input, chunk: &mut [u8], line: &mut [u8]) -> Next
     ensures { result.long ≤ length line.new }
 {
-    let g = take_line(input, chunk, line);
+    let g = take_line(stdin, input, chunk, line);
     let input = Input {
         got: g.got,
         left: g.left,

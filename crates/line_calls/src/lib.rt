@@ -1,12 +1,13 @@
 // The calls on record lines as the desk makes them: `write`, a record to its line, and `read`, a line to its record; and
 // what is written of them. Document 01, "Count lines". No contract can say what is written to standard output, so
-// nothing is promised here but safety.
+// nothing is promised here but safety. A write that fails is answered with its error.
 #![tactic(auto)]
 
 ghost use Rattle.std.specs.Prelude.{◌≡◌, ◌≤◌, length};
 
 use asking::Way;
 use output::Written;
+use std::io;
 use transcript::{say, say_answer, say_number};
 
 const LONGEST: usize = 4096;
@@ -49,32 +50,32 @@ fn lay_hex(out: &[u8], text: &mut [u8])
     }
 }
 
-fn say_hex(out: &[u8], text: &mut [u8])
+fn say_hex(rt: &impl Print, out: &[u8], text: &mut [u8]) -> io::Result<()>
     requires { (length out.now ≤ 4096) × (8192 ≡ length text.old) }
 {
     lay_hex(out, text);
-    say(&text[0..2 * out.len()]);
+    say(rt, &text[0..2 * out.len()])
 }
 
 // Every byte that was lent.
-fn say_lent(out: &[u8])
+fn say_lent(rt: &impl Print, out: &[u8]) -> io::Result<()>
     requires { length out.now ≤ 4096 }
 {
     if out.len() == 0 {
-        return say(b"-");
+        return say(rt, b"-");
     }
     let mut space = hex_digits();
-    say_hex(out, &mut space);
+    say_hex(rt, out, &mut space)
 }
 
 // The answer, and after a 0 the number of bytes that were written.
-fn say_written(written: Written) {
+fn say_written(rt: &impl Print, written: Written) -> io::Result<()> {
     match written {
         Written::Bytes(n) => {
-            say(b"0 ");
-            say_number(n as u64);
+            say(rt, b"0 ")?;
+            say_number(rt, n as u64)
         }
-        Written::Refused(answer) => say_answer(answer),
+        Written::Refused(answer) => say_answer(rt, answer),
     }
 }
 
@@ -86,21 +87,36 @@ fn called(way: Way, order: u8, bytes: &[u8], out: &mut [u8], at: usize) -> Writt
 }
 
 // A call, and what became of it.
-fn show_call(way: Way, order: u8, bytes: &[u8], out: &mut [u8], at: usize)
+fn show_call(
+    rt: &impl Print,
+    way: Way,
+    order: u8,
+    bytes: &[u8],
+    out: &mut [u8],
+    at: usize,
+) -> io::Result<()>
     requires { length out.old ≤ 4096 }
 {
     let written = called(way, order, bytes, out, at);
-    say_written(written);
-    say(b" ");
-    say_lent(out);
-    say(b"\n");
+    say_written(rt, written)?;
+    say(rt, b" ")?;
+    say_lent(rt, out)?;
+    say(rt, b"\n")
 }
 
 // Lends `long` bytes: no request asks for more than there are.
-pub fn line_call(way: Way, order: u8, at: usize, long: usize, bytes: &[u8]) {
+pub fn line_call(
+    rt: &impl Print,
+    way: Way,
+    order: u8,
+    at: usize,
+    long: usize,
+    bytes: &[u8],
+) -> io::Result<()> {
     let mut space = lent();
     let all: &mut [u8] = &mut space;
     if long <= LONGEST {
-        show_call(way, order, bytes, &mut all[0..long], at);
+        return show_call(rt, way, order, bytes, &mut all[0..long], at);
     }
+    Ok(())
 }

@@ -8,6 +8,8 @@ ghost use Rattle.tallying.specs.Lined.{most_text};
 ghost use Rattle.tally.specs.Reading.{roomy, plenty, more_after, Reads, is_going, Through, Told};
 
 use following::{Stream, begin, follow};
+use std::io;
+use std::io::Read;
 use tallying::finish;
 use walking::Fate;
 
@@ -66,20 +68,19 @@ fn more_after(got: usize, read: u64) -> bool
 }
 
 // Reads once, behind the bytes that are held. A read that gives nothing, or fails, is the end of the input.
-fn read_more(input: Input, buf: &mut [u8], held: usize) -> Input
+fn read_more(stdin: &mut impl Read, input: Input, buf: &mut [u8], held: usize) -> Input
     requires { (held ≤ length buf.old) × (length buf.old ≡ roomy) × (input.read < plenty) }
     ensures { Reads input held buf.old result buf.new }
 {
     let part = &mut buf[held..];
-    let answer = libc::read(0, part);
-    let got = io::count(answer, part);
+    let got = stdin.read(part).unwrap_or(0);
     let read = input.read + got as u64;
     let more = more_after(got, read);
     Input { read, got, more }
 }
 
 // Chunk after chunk, until the stream stops or the input is at its end.
-fn follow_all(buf: &mut [u8]) -> Ended
+fn follow_all(stdin: &mut impl Read, buf: &mut [u8]) -> Ended
     requires { length buf.old ≡ roomy }
     ensures { Through result buf.new }
 {
@@ -90,30 +91,32 @@ fn follow_all(buf: &mut [u8]) -> Ended
         more: true,
     };
     while input.more && is_going(s) {
-        input = read_more(input, buf, s.held);
+        input = read_more(stdin, input, buf, s.held);
         s = follow(s, buf, input.got);
     }
     Ended { stream: s, input }
 }
 
 // The whole program but for its write: the text of what is read, at the start of the lent output.
-fn tally(buf: &mut [u8], out: &mut [u8]) -> Text
+fn tally(stdin: &mut impl Read, buf: &mut [u8], out: &mut [u8]) -> Text
     requires { (length buf.old ≡ roomy) × (most_text ≤ length out.old) }
     ensures { Told out.old result out.new }
 {
-    let e = follow_all(buf);
+    let e = follow_all(stdin, buf);
     let stream = e.stream;
     let input = e.input;
     let long = finish(stream, buf, out);
     Text { long, input }
 }
 
-fn main() {
+fn main(rt: HostRuntime) -> io::Result<()> {
     let mut space = read_buffer();
-    let mut out = io::large_buffer();
-    let text = tally(&mut space, &mut out);
+    let mut out = [0u8; 65536];
+    let text = tally(&mut rt.stdin(), &mut space, &mut out);
     let n = text.long;
-    if !io::write_all(1, &out[0..n]) {
-        io::write_all(2, b"tally: the text could not be written\n");
+    let written = rt.write_all(&out[0..n]);
+    if written.is_err() {
+        rt.eprint("tally: the text could not be written\n")?;
     }
+    written
 }

@@ -5,6 +5,7 @@ ghost use Rattle.std.specs.Prelude.{◌+◌, ◌*◌, ◌≤◌, length};
 use crate::say;
 use kinds::{Kind, Remaining};
 use order::Place;
+use std::io;
 
 fn remaining_number(kind: Remaining) -> usize
     ensures { result ≤ 24 }
@@ -60,28 +61,29 @@ fn kind_start(n: usize) -> usize
     }
 }
 
-fn say_kind_part(from: usize, end: usize)
+fn say_kind_part(rt: &impl Print, from: usize, end: usize) -> io::Result<()>
     requires { end ≤ 88 }
 {
     let names =
         *b"FARATRMIRMRRPCRHBRSBRRDRSDRWIRWRRPIRPRRPMRPGRPLRWCRTSRPTRMPRFTRBPSEPSGDRDTRcustomunknown";
     if from <= end {
-        say(&names[from..end]);
+        return say(rt, &names[from..end]);
     }
+    Ok(())
 }
 
-pub fn say_kind(kind: Kind) {
+pub fn say_kind(rt: &impl Print, kind: Kind) -> io::Result<()> {
     let n = kind_number(kind);
-    say_kind_part(kind_start(n), kind_start(n + 1));
+    say_kind_part(rt, kind_start(n), kind_start(n + 1))
 }
 
 // The name of a kind, as wide as the widest.
-pub fn say_kind_wide(kind: Kind) {
-    say_kind(kind);
+pub fn say_kind_wide(rt: &impl Print, kind: Kind) -> io::Result<()> {
+    say_kind(rt, kind)?;
     match kind {
-        Kind::Custom => say(b" "),
-        Kind::Unknown => {}
-        _ => say(b"    "),
+        Kind::Custom => say(rt, b" "),
+        Kind::Unknown => Ok(()),
+        _ => say(rt, b"    "),
     }
 }
 
@@ -99,11 +101,11 @@ fn place_number(place: Place) -> usize
 }
 
 // Bytes `from` to `end` of the names of places, each eight wide, its name last.
-fn say_place_part(from: usize, end: usize)
+fn say_place_part(rt: &impl Print, from: usize, end: usize) -> io::Result<()>
     requires { (from ≤ end) × (end ≤ 48) }
 {
     let names = *b"   start  header     lot   setup    body   ended";
-    say(&names[from..end]);
+    say(rt, &names[from..end])
 }
 
 // How many blanks stand before the name of a place.
@@ -118,13 +120,13 @@ fn blanks(n: usize) -> usize
     }
 }
 
-pub fn say_place(place: Place) {
+pub fn say_place(rt: &impl Print, place: Place) -> io::Result<()> {
     let n = place_number(place);
-    say_place_part(8 * n + blanks(n), 8 * n + 8);
+    say_place_part(rt, 8 * n + blanks(n), 8 * n + 8)
 }
 
 // A cell of a table with a column for each place: every one is eight wide, so that places stand below each other.
-pub fn say_cell(place: Place) {
+pub fn say_cell(rt: &impl Print, place: Place) -> io::Result<()> {
     let n = place_number(place);
-    say_place_part(8 * n, 8 * n + 8);
+    say_place_part(rt, 8 * n, 8 * n + 8)
 }

@@ -1,0 +1,7 @@
+-- `bench_feed::feed_all` ends: the measure is the number of turns that are left.
+-- Assumes nothing.
+use Rattle.std.proofs.Common.{length}
+use Rattle.bench_feed.proofs.feed_all.Given as goal
+
+abbrev pub decreases-loop-turns : goal.decreases-loop-turns
+decreases-loop-turns g l = l.turns

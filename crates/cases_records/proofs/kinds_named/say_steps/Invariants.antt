@@ -1,0 +1,10 @@
+-- `cases_records::kinds_named::say_steps` ends.
+-- Assumes nothing.
+use Rattle.std.proofs.Common.{◌-◌, ◌≤◌}
+use Rattle.cases_records.proofs.kinds_named.say_steps.Given as goal
+
+abbrev pub invariant-loop-i : goal.invariant-loop-i
+invariant-loop-i g l = l.i ≤ 6
+
+abbrev pub decreases-loop-i : goal.decreases-loop-i
+decreases-loop-i g l = 6 - l.i

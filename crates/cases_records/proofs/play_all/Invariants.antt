@@ -1,0 +1,10 @@
+-- `cases_records::play_all` ends: the measure is the number of turns that are left.
+-- Assumes nothing.
+use Rattle.std.proofs.Common.{◌≡◌, length}
+use Rattle.cases_records.proofs.play_all.Given as goal
+
+abbrev pub invariant-loop-turns : goal.invariant-loop-turns
+invariant-loop-turns g l = length l.bytes ≡ length l.initial.bytes
+
+abbrev pub decreases-loop-turns : goal.decreases-loop-turns
+decreases-loop-turns g l = l.turns

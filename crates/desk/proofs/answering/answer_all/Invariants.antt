@@ -1,0 +1,10 @@
+-- `desk::answering::answer_all` ends: the measure is the number of turns that are left.
+-- Assumes nothing.
+use Rattle.std.proofs.Common.{◌≡◌, length}
+use Rattle.desk.proofs.answering.answer_all.Given as goal
+
+abbrev pub invariant-loop-turns : goal.invariant-loop-turns
+invariant-loop-turns g l = length l.carries ≡ 1048640
+
+abbrev pub decreases-loop-turns : goal.decreases-loop-turns
+decreases-loop-turns g l = l.turns
