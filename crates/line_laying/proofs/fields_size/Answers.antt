@@ -21,8 +21,16 @@ pub loop-j-preserved : goal.loop-j-preserved
 loop-j-preserved c =
     let a = c.args in
     let on = rest_length a.source.now a.line c.requires.0.full a.layout c.loop-j.j a.n
-    (omega arith) c.requires.1 in
-    (omega arith, omega (arith, c.nth_size-size.ensures.1), omega (arith, c.nth_size-size.ensures.0, on, c.loop-j.invariant.2))
+    (omega arith) c.requires.1 in (
+      omega arith,
+      omega (arith, c.nth_size-size.ensures.1),
+      omega (
+        arith,
+        c.nth_size-size.ensures.0,
+        on,
+        c.loop-j.invariant.2,
+      ),
+    )
 
 pub returns : goal.returns
 returns c =

@@ -24,17 +24,16 @@ overflow_add-size c =
 
 pub returns-then-out-at-2 : goal.returns-then-out-at-2
 returns-then-out-at-2 c =
-    let sized : Sized c.args.layout c.args.source.now c.args.line c.present_count-n.result c.fields_size-size.result =
+    let a = c.args in
+    let sized : Sized a.layout a.source.now a.line c.present_count-n.result c.fields_size-size.result =
     record {
       there = c.requires;
       stops = c.present_count-n.ensures;
       is = c.fields_size-size.ensures.0;
     } in
-    let total : length (laid_out c.args.layout (meaning_of c.args.source.now c.args.line)) ≡ c.fields_size-size.result + 4 =
-    let a = c.args in
+    let total : length (laid_out a.layout (meaning_of a.source.now a.line)) ≡ c.fields_size-size.result + 4 =
     laid_size a.layout a.source.now a.line c.present_count-n.result c.fields_size-size.result
     sized in
-    let a = c.args in
     place_short (laid_out a.layout (meaning_of a.source.now a.line)) a.out.now a.at
     (omega (arith, total))
 
@@ -47,14 +46,14 @@ overflow_cast-size c =
 
 pub put_all-k-requires : goal.put_all-k-requires
 put_all-k-requires c =
-    let sized : Sized c.args.layout c.args.source.now c.args.line c.present_count-n.result c.fields_size-size.result =
+    let a = c.args in
+    let sized : Sized a.layout a.source.now a.line c.present_count-n.result c.fields_size-size.result =
     record {
       there = c.requires;
       stops = c.present_count-n.ensures;
       is = c.fields_size-size.ensures.0;
     } in
-    let total : length (laid_out c.args.layout (meaning_of c.args.source.now c.args.line)) ≡ c.fields_size-size.result + 4 =
-    let a = c.args in
+    let total : length (laid_out a.layout (meaning_of a.source.now a.line)) ≡ c.fields_size-size.result + 4 =
     laid_size a.layout a.source.now a.line c.present_count-n.result c.fields_size-size.result
     sized in
     let a = c.args in (
@@ -65,17 +64,16 @@ put_all-k-requires c =
 
 pub returns : goal.returns
 returns c =
-    let sized : Sized c.args.layout c.args.source.now c.args.line c.present_count-n.result c.fields_size-size.result =
+    let a = c.args in
+    let sized : Sized a.layout a.source.now a.line c.present_count-n.result c.fields_size-size.result =
     record {
       there = c.requires;
       stops = c.present_count-n.ensures;
       is = c.fields_size-size.ensures.0;
     } in
-    let total : length (laid_out c.args.layout (meaning_of c.args.source.now c.args.line)) ≡ c.fields_size-size.result + 4 =
-    let a = c.args in
+    let total : length (laid_out a.layout (meaning_of a.source.now a.line)) ≡ c.fields_size-size.result + 4 =
     laid_size a.layout a.source.now a.line c.present_count-n.result c.fields_size-size.result
     sized in
-    let a = c.args in
     let q = c.put_all-k in
     place_done (laid_out a.layout (meaning_of a.source.now a.line)) a.out.now a.at
     (omega (arith, total))

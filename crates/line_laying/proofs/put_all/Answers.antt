@@ -10,19 +10,17 @@ use Rattle.line_laying.proofs.put_all.Goals as goal
 
 pub put_head-k-requires : goal.put_head-k-requires
 put_head-k-requires c =
-    let room : Room (head_of c.args.layout c.args.line.tag c.args.size ++ rest_of c.args.layout c.args.source.now c.args.line 0 c.args.n) c.args.out.now =
     let a = c.args in
+    let room : Room (head_of a.layout a.line.tag a.size ++ rest_of a.layout a.source.now a.line 0 a.n) a.out.now =
     rw (laid_out_lem a.layout a.source.now a.line a.n a.size c.requires.0) at c.requires.1 in
-    let a = c.args in
     first (head_of a.layout a.line.tag a.size) (rest_of a.layout a.source.now a.line 0 a.n)
     a.out.now room
 
 pub slice_bounds-put_fields-count : goal.slice_bounds-put_fields-count
 slice_bounds-put_fields-count c =
-    let room : Room (head_of c.args.layout c.args.line.tag c.args.size ++ rest_of c.args.layout c.args.source.now c.args.line 0 c.args.n) c.args.out.now =
     let a = c.args in
+    let room : Room (head_of a.layout a.line.tag a.size ++ rest_of a.layout a.source.now a.line 0 a.n) a.out.now =
     rw (laid_out_lem a.layout a.source.now a.line a.n a.size c.requires.0) at c.requires.1 in
-    let a = c.args in
     let p = c.put_head-k in
     inside (head_of a.layout a.line.tag a.size) (rest_of a.layout a.source.now a.line 0 a.n)
     a.out.now room p.new.out p.result p.ensures
@@ -32,10 +30,9 @@ slice_bounds-put_fields-start c = slice_bounds-put_fields-count c
 
 pub put_fields-requires : goal.put_fields-requires
 put_fields-requires c =
-    let room : Room (head_of c.args.layout c.args.line.tag c.args.size ++ rest_of c.args.layout c.args.source.now c.args.line 0 c.args.n) c.args.out.now =
     let a = c.args in
+    let room : Room (head_of a.layout a.line.tag a.size ++ rest_of a.layout a.source.now a.line 0 a.n) a.out.now =
     rw (laid_out_lem a.layout a.source.now a.line a.n a.size c.requires.0) at c.requires.1 in
-    let a = c.args in
     let p = c.put_head-k in (
       c.requires.0.there,
       c.requires.0.stops.few,
@@ -45,10 +42,9 @@ put_fields-requires c =
 
 pub returns : goal.returns
 returns c =
-    let room : Room (head_of c.args.layout c.args.line.tag c.args.size ++ rest_of c.args.layout c.args.source.now c.args.line 0 c.args.n) c.args.out.now =
     let a = c.args in
+    let room : Room (head_of a.layout a.line.tag a.size ++ rest_of a.layout a.source.now a.line 0 a.n) a.out.now =
     rw (laid_out_lem a.layout a.source.now a.line a.n a.size c.requires.0) at c.requires.1 in
-    let a = c.args in
     let p = c.put_head-k in
     let q = c.put_fields in
     rw (laid_out_lem a.layout a.source.now a.line a.n a.size c.requires.0)

@@ -26,8 +26,13 @@ returns-then-last-eq-LINE_FEED c =
 
 pub returns-then-last-eq-CARRIAGE_RETURN : goal.returns-then-last-eq-CARRIAGE_RETURN
 returns-then-last-eq-CARRIAGE_RETURN c =
-    let s = c.args.line.now in
-    (sym (ending_return s c.if-last-eq-LINE_FEED.false c.if-last-eq-CARRIAGE_RETURN.true), omega (arith, c.if-n-eq0.false))
+    let s = c.args.line.now in (
+      sym (ending_return s c.if-last-eq-LINE_FEED.false c.if-last-eq-CARRIAGE_RETURN.true),
+      omega (
+        arith,
+        c.if-n-eq0.false,
+      ),
+    )
 
 pub returns-else-last-eq-CARRIAGE_RETURN : goal.returns-else-last-eq-CARRIAGE_RETURN
 returns-else-last-eq-CARRIAGE_RETURN c =

@@ -20,8 +20,11 @@ returns-then-is_break c =
 pub loop-i-preserved : goal.loop-i-preserved
 loop-i-preserved c =
     let s = c.args.s.now in
-    let is = sym c.is_break.ensures ∙ c.if-is_break.false in
-    (omega arith, c.loop-i.invariant.1 ∙ each_on ℕ (λ (b : ℕ). not (is_break b)) s c.loop-i.i 0 (omega arith) (ap not is))
+    let is = sym c.is_break.ensures ∙ c.if-is_break.false in (
+      omega arith,
+      c.loop-i.invariant.1
+          ∙ each_on ℕ (λ (b : ℕ). not (is_break b)) s c.loop-i.i 0 (omega arith) (ap not is),
+    )
 
 pub returns : goal.returns
 returns c =

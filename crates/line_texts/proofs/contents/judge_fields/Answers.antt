@@ -35,10 +35,7 @@ returns-then-not-fields_fit c =
     c.refused_line-then-not-fields_fit.ensures
 
 pub fill-line-requires : goal.fill-line-requires
-fill-line-requires c =
-    let fits : fields_fit c.args.sep (columns c.args.tag) (gathered c.args.tag (split c.args.sep (drop 4 c.args.s.now))) ≡ true =
-    sym c.fields_fit.ensures ∙ c.if-not-fields_fit.false in
-    (c.cut-pieces.ensures, fits)
+fill-line-requires c = (c.cut-pieces.ensures, sym c.fields_fit.ensures ∙ c.if-not-fields_fit.false)
 
 pub sites_fit-requires : goal.sites_fit-requires
 sites_fit-requires c =
@@ -47,34 +44,38 @@ sites_fit-requires c =
 
 pub returns-then-not-sites_fit : goal.returns-then-not-sites_fit
 returns-then-not-sites_fit c =
-    let few : leb (length (split c.args.sep (drop 4 c.args.s.now))) (length (columns c.args.tag)) ≡ true =
-    c.cut-pieces.ensures.few ∙ ap not c.if-pieces.false in
-    let fits : fields_fit c.args.sep (columns c.args.tag) (gathered c.args.tag (split c.args.sep (drop 4 c.args.s.now))) ≡ true =
-    sym c.fields_fit.ensures ∙ c.if-not-fields_fit.false in
     let a = c.args in
-    rw (mean_sites a.sep a.tag (split a.sep (drop 4 a.s.now)) few
-    fits
-    (sym (let told' : c.sites_fit.result ≡ sits Missing (columns c.args.tag) (entries_in (columns c.args.tag) (gathered c.args.tag (split c.args.sep (drop 4 c.args.s.now)))) = let a = c.args in
+    let few : leb (length (split a.sep (drop 4 a.s.now))) (length (columns a.tag)) ≡ true =
+    c.cut-pieces.ensures.few ∙ ap not c.if-pieces.false in
+    let fits : fields_fit a.sep (columns a.tag) (gathered a.tag (split a.sep (drop 4 a.s.now))) ≡ true =
+    sym c.fields_fit.ensures ∙ c.if-not-fields_fit.false in
+    let told : c.sites_fit.result
+    ≡ sits Missing (columns a.tag) (entries_in (columns a.tag) (gathered a.tag (split a.sep (drop 4 a.s.now)))) =
     let s = a.s.now in
     c.sites_fit.ensures.all s
     ∙ ap (λ (l : Line). sits Missing (columns l.tag) (entries_of s l)) c.fill-line.ensures
     ∙ ap (λ (m : Meaning). sits Missing (columns m.tag) m.entries)
-    (line_means a.sep s a.tag c.requires) in told') ∙ c.if-not-sites_fit.true))
+    (line_means a.sep s a.tag c.requires) in
+    rw (mean_sites a.sep a.tag (split a.sep (drop 4 a.s.now)) few
+    fits
+    (sym told ∙ c.if-not-sites_fit.true))
     c.refused_line-then-not-sites_fit.ensures
 
 pub returns : goal.returns
 returns c =
-    let few : leb (length (split c.args.sep (drop 4 c.args.s.now))) (length (columns c.args.tag)) ≡ true =
-    c.cut-pieces.ensures.few ∙ ap not c.if-pieces.false in
-    let fits : fields_fit c.args.sep (columns c.args.tag) (gathered c.args.tag (split c.args.sep (drop 4 c.args.s.now))) ≡ true =
-    sym c.fields_fit.ensures ∙ c.if-not-fields_fit.false in
     let a = c.args in
-    rw (mean_said a.sep a.tag (split a.sep (drop 4 a.s.now)) few
-    fits
-    (sym (let told' : c.sites_fit.result ≡ sits Missing (columns c.args.tag) (entries_in (columns c.args.tag) (gathered c.args.tag (split c.args.sep (drop 4 c.args.s.now)))) = let a = c.args in
+    let few : leb (length (split a.sep (drop 4 a.s.now))) (length (columns a.tag)) ≡ true =
+    c.cut-pieces.ensures.few ∙ ap not c.if-pieces.false in
+    let fits : fields_fit a.sep (columns a.tag) (gathered a.tag (split a.sep (drop 4 a.s.now))) ≡ true =
+    sym c.fields_fit.ensures ∙ c.if-not-fields_fit.false in
+    let told : c.sites_fit.result
+    ≡ sits Missing (columns a.tag) (entries_in (columns a.tag) (gathered a.tag (split a.sep (drop 4 a.s.now)))) =
     let s = a.s.now in
     c.sites_fit.ensures.all s
     ∙ ap (λ (l : Line). sits Missing (columns l.tag) (entries_of s l)) c.fill-line.ensures
     ∙ ap (λ (m : Meaning). sits Missing (columns m.tag) m.entries)
-    (line_means a.sep s a.tag c.requires) in told') ∙ c.if-not-sites_fit.false))
+    (line_means a.sep s a.tag c.requires) in
+    rw (mean_said a.sep a.tag (split a.sep (drop 4 a.s.now)) few
+    fits
+    (sym told ∙ c.if-not-sites_fit.false))
     (c.said_line.ensures ∙ ap saying c.fill-line.ensures)

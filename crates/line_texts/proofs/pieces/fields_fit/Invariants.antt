@@ -8,8 +8,10 @@ use Rattle.line_texts.specs.Pieces.{split, gathered, fields_fit}
 use Rattle.line_texts.proofs.pieces.fields_fit.Given as goal
 
 abbrev pub invariant-loop-j : goal.invariant-loop-j
-invariant-loop-j l = (l.j ≤ l.count) × (fields_fit l.sep (columns l.tag) (gathered l.tag (split l.sep (drop 4 l.text))) ≡ fields_fit l.sep
-    (drop l.j (columns l.tag)) (drop l.j (gathered l.tag (split l.sep (drop 4 l.text)))))
+invariant-loop-j l =
+    let pieces = gathered l.tag (split l.sep (drop 4 l.text)) in
+    (l.j ≤ l.count)
+    × (fields_fit l.sep (columns l.tag) pieces ≡ fields_fit l.sep (drop l.j (columns l.tag)) (drop l.j pieces))
 
 abbrev pub decreases-loop-j : goal.decreases-loop-j
 decreases-loop-j l = l.count - l.j

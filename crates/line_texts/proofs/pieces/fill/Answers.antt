@@ -12,7 +12,15 @@ use Rattle.line_layouts.proofs.Fills.{alike_at, stored_on}
 use Rattle.line_texts.specs.Pieces.{split, gathered}
 use Rattle.line_texts.specs.Places.{no_place, places_in, said_in}
 use Rattle.line_texts.proofs.Cuts.{fields_each}
-use Rattle.line_texts.proofs.Places.{length_places_in, piece_inside, piece_is, piece_at, field_at_lem, fields, filled_all}
+use Rattle.line_texts.proofs.Places.{
+  length_places_in,
+  piece_inside,
+  piece_is,
+  piece_at,
+  field_at_lem,
+  fields,
+  filled_all,
+}
 use Rattle.line_texts.proofs.pieces.fill.Goals as goal
 
 pub loop-j-init : goal.loop-j-init
@@ -54,7 +62,8 @@ loop-j-preserved c =
     let ns = places_in a.sep text a.tag in
     let inside : j < length (columns a.tag) = omega (arith, c.column_count-count.ensures.0) in
     let room : j < length c.loop-j.fields = omega (arith, c.column_count-count.ensures.1, c.loop-j.invariant.1) in
-    let said : said_in (get_or (columns a.tag) j no_column) (get_or ns j no_place).at (named text (get_or ns j no_place))
+    let said : said_in (get_or (columns a.tag) j no_column) (get_or ns j no_place).at
+    (named text (get_or ns j no_place))
     ≡ c.said_in-said.result =
     rw (
       ← piece_at a.sep text a.tag a.cut c.requires.0 j inside,

@@ -9,8 +9,9 @@ use Rattle.line_layouts.specs.Names.{entry_allowed}
 use Rattle.lines.proofs.writing.line_allowed.Given as goal
 
 abbrev pub invariant-loop-j : goal.invariant-loop-j
-invariant-loop-j l = (l.j ≤ l.count) × (each (entry_allowed l.sep) (entries_of l.source l.line) ≡ each (entry_allowed l.sep) (drop l.j
-    (entries_of l.source l.line)))
+invariant-loop-j l =
+    let entries = entries_of l.source l.line in
+    (l.j ≤ l.count) × (each (entry_allowed l.sep) entries ≡ each (entry_allowed l.sep) (drop l.j entries))
 
 abbrev pub decreases-loop-j : goal.decreases-loop-j
 decreases-loop-j l = l.count - l.j
