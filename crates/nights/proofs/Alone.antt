@@ -149,8 +149,8 @@ pub record Own : Type 0 where
 abbrev pub own : Slot → List Count → List ℕ → Own
 own s rows held = record { slot = s; rows = rows; held = held }
 
-abbrev pub field_own : Night → ℕ → Own
-field_own n slot = own (slot_at n.house slot) (rows_at n.house slot) (held_at n slot)
+abbrev pub own_at : Night → ℕ → Own
+own_at n slot = own (slot_at n.house slot) (rows_at n.house slot) (held_at n slot)
 
 abbrev pub seat_of : Own → Seat
 seat_of o = seat o.slot.floor o.slot.session o.rows
@@ -202,7 +202,7 @@ module _ (slot : ℕ) (n : Night) (fine : Fine n) where
   h = n.house
 
   abbrev o : Own
-  o = field_own n slot
+  o = own_at n slot
 
   module _ (t : (slot_at h slot).taken ≡ true) where
     there : slot < slot_count
@@ -253,7 +253,7 @@ module _ (slot : ℕ) (n : Night) (fine : Fine n) where
 
     -- the night after it, as its slot sees it
     own_poured : (p : Poured House) (q : Poured Seat) → PouredLike p q
-        → field_own (night (with_held p.state slot (length p.held)) (set n.carries slot p.held)) slot
+        → own_at (night (with_held p.state slot (length p.held)) (set n.carries slot p.held)) slot
         ≡ own_with q.state q.held
     own_poured p q e =
         let g = p.state in
@@ -268,7 +268,7 @@ module _ (slot : ℕ) (n : Night) (fine : Fine n) where
 
     record Told (x : Next) (c : Call) : Type 0 where
       reply : x.reply ≡ reply_alone o c
-      stands : field_own x.night slot ≡ after_alone o c
+      stands : own_at x.night slot ≡ after_alone o c
 
     feed_told : (long : ℕ) (chunk : List ℕ) → Bytes chunk → within_alone o (Feed slot long chunk) ≡ true
         → Told (feed_next n slot long chunk) (Feed slot long chunk)
@@ -343,7 +343,7 @@ module _ (slot : ℕ) (n : Night) (fine : Fine n) where
 
   -- its course, where the rest is as it would be by itself
   course_own : (c : Call) (cs : List Call) (rest : Course) → Sent c → names slot c ≡ true
-      → rest ≡ course_alone (field_own (after n c) slot) cs
+      → rest ≡ course_alone (own_at (after n c) slot) cs
       → cond ((slot_at h slot).taken && within n slot c) (Goes (reply n c) (seat_at (after n c) slot) rest) Beyond
       ≡ course_alone o (c ∷ cs)
   course_own c cs rest sent is ih = go (slot_at h slot).taken refl
@@ -396,7 +396,7 @@ module _ (slot : ℕ) (n : Night) (fine : Fine n) where
       go false false = tt
 
   fed_left : (i : ℕ) (chunk : List ℕ) → Bytes chunk → eqb i slot ≡ false
-      → field_own (feed_done n i chunk).night slot ≡ field_own n slot
+      → own_at (feed_done n i chunk).night slot ≡ own_at n slot
   fed_left i chunk sent other =
       let bytes = held_at n i ++ chunk in
       go (walked (hearing i) (Waits n.house []) bytes)
@@ -408,7 +408,7 @@ module _ (slot : ℕ) (n : Night) (fine : Fine n) where
       not_it q = eqb-false i slot other (sym q)
 
       held_left : (g : House) (held : List ℕ) → Left slot n.house g
-          → field_own (night (with_held g i (length held)) (set n.carries i held)) slot ≡ field_own n slot
+          → own_at (night (with_held g i (length held)) (set n.carries i held)) slot ≡ own_at n slot
       held_left g held l =
           let s = slot_at g i in
           let new : Slot =
@@ -422,35 +422,35 @@ module _ (slot : ℕ) (n : Night) (fine : Fine n) where
 
       go : (w : Walked House Answer) → Left slot n.house (state_of w)
           → let p = poured (length chunk) w in
-          field_own (night (with_held p.state i (length p.held)) (set n.carries i p.held)) slot ≡ field_own n slot
+          own_at (night (with_held p.state i (length p.held)) (set n.carries i p.held)) slot ≡ own_at n slot
       go (Waits g part) l = held_left g part l
       go (Stops g r a rest) l = held_left g (r ++ take (length rest - length chunk) rest) l
 
-  else_own : (c : Call) → Sent c → names slot c ≡ false → field_own (after n c) slot ≡ field_own n slot
+  else_own : (c : Call) → Sent c → names slot c ≡ false → own_at (after n c) slot ≡ own_at n slot
   unfolding feed_next
   else_own (Asked c) sent other =
       let a = else_alike slot n.house c fine.shaped sent other in
       rw (a.stands, a.rows)
   else_own (Feed i long chunk) sent other =
-      checked_by (λ (a : Answer). next_as (Took a 0) n) (λ (x : Next). field_own x.night slot ≡ field_own n slot)
+      checked_by (λ (a : Answer). next_as (Took a 0) n) (λ (x : Next). own_at x.night slot ≡ own_at n slot)
       (feed_checks n.house i long) (feed_done n i chunk) (λ a. refl) (λ all. fed_left i chunk sent other)
   else_own (End i) sent other = refl
 
 -- ---- all its calls
 
 pub course_alone_lem : (slot : ℕ) (n : Night) (cs : List Call) → AllSent cs → Fine n
-    → course slot n cs ≡ course_alone (field_own n slot) (named slot cs)
+    → course slot n cs ≡ course_alone (own_at n slot) (named slot cs)
 course_alone_lem slot n [] sent fine = refl
 course_alone_lem slot n (c ∷ cs) sent fine =
     go (names slot c) refl (course_alone_lem slot (after n c) cs sent.1 (after_fine n c sent.0 fine))
   where
     go : (b : Bool) → names slot c ≡ b
-        → course slot (after n c) cs ≡ course_alone (field_own (after n c) slot) (named slot cs)
+        → course slot (after n c) cs ≡ course_alone (own_at (after n c) slot) (named slot cs)
         → cond b
         (cond ((slot_at n.house slot).taken && within n slot c)
         (Goes (reply n c) (seat_at (after n c) slot) (course slot (after n c) cs)) Beyond)
         (course slot (after n c) cs)
-        ≡ course_alone (field_own n slot) (cond b (c ∷ named slot cs) (named slot cs))
+        ≡ course_alone (own_at n slot) (cond b (c ∷ named slot cs) (named slot cs))
     go false other ih = rw (else_own slot n fine c sent.0 other) at ih
     go true is ih = course_own slot n fine c (named slot cs) (course slot (after n c) cs) sent.0 is ih
 
