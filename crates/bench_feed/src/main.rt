@@ -52,11 +52,12 @@ fn plus(a: u64, b: u64) -> u64 {
 // Reads until the bytes are all there, or the input ends. A read that fails is its end.
 fn read_full(stdin: &mut impl Read, bytes: &mut [u8]) {
     let mut done: usize = 0;
-    let mut more = true;
-    while more && done < bytes.len() {
+    while done < bytes.len() {
         let got = stdin.read(&mut bytes[done..]).unwrap_or(0);
+        if got == 0 {
+            return;
+        }
         done += got;
-        more = 0 < got;
     }
 }
 
