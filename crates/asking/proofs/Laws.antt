@@ -75,7 +75,8 @@ three_other verb.Read a b c k = refl
 three_other verb.Help a b c k = refl
 three_other verb.Other a b c k = refl
 
-pub four_other : (v : Verb) (a b c d : List ℕ) → OneOf (0 ∷ 1 ∷ 2 ∷ 3 ∷ 4 ∷ 5 ∷ 6 ∷ 7 ∷ 10 ∷ 11 ∷ []) (tag_of the_type v)
+pub four_other : (v : Verb) (a b c d : List ℕ)
+    → OneOf (0 ∷ 1 ∷ 2 ∷ 3 ∷ 4 ∷ 5 ∷ 6 ∷ 7 ∷ 10 ∷ 11 ∷ []) (tag_of the_type v)
     → NoCall ≡ asks v (a ∷ b ∷ c ∷ d ∷ [])
 four_other verb.Fresh a b c d k = refl
 four_other verb.Open a b c d k = refl

@@ -254,7 +254,8 @@ one_byte : (ends : Order) (b : ℕ) → number ends (b ∷ []) ≡ b
 one_byte HighFirst b = omega arith
 one_byte LowFirst b = omega arith
 
-pub byte_at : (ends : Order) (at : ℕ) (s : List ℕ) → at + 1 ≤ length s → get_or s at 0 ≡ number ends (take 1 (drop at s))
+pub byte_at : (ends : Order) (at : ℕ) (s : List ℕ) → at + 1 ≤ length s
+    → get_or s at 0 ≡ number ends (take 1 (drop at s))
 byte_at ends at s h =
     let is = one_taken (drop at s) (omega (arith, length-drop at s)) in
     rw is (sym (one_byte ends (get_or (drop at s) 0 0) ∙ get_or-drop at s 0 0 ∙ rw (add-zero at)))

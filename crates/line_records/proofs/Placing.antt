@@ -58,7 +58,8 @@ module _ (ends : Order) (cs : List Column) (s : List ℕ) where
                 ∙ ap (λ (n : ℕ). fields_from ends (drop n cs) s next (is_missing stored.said)) (sym (add-one j));
           }
 
-    pub placing_done : length cs ≤ j → length cs ≤ most_columns → length fields ≡ most_columns → fields ≡ padded all_fields
+    pub placing_done : length cs ≤ j → length cs ≤ most_columns → length fields ≡ most_columns
+        → fields ≡ padded all_fields
     placing_done over few full =
         let size = length_from ends s cs 0 true in
         stored_all all_fields fields j (omega arith) (omega arith) full placing.first

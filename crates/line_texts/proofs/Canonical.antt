@@ -34,7 +34,8 @@ use Rattle.line_layouts.specs.Layouts.{is_name, is_time, number_text, entry_text
 use Rattle.line_layouts.specs.Fitting.{is_number, has_flag, is_flag, is_letter, letter_fits, entry_fits, sits}
 use Rattle.line_layouts.specs.Fitting.{given, table_sound}
 use Rattle.line_layouts.proofs.Arranging.{length_arranged, arranged_at, arranged_same, put_back}
-use Rattle.line_layouts.proofs.Tables.{sound, turned, Sane, sane, form_sound_lem, rest_sound, bar_separates, Apart, apart}
+use Rattle.line_layouts.proofs.Tables.{sound, turned, Sane, sane, form_sound_lem, rest_sound, bar_separates}
+use Rattle.line_layouts.proofs.Tables.{Apart, apart}
 use Rattle.line_layouts.specs.Judging.{Says}
 use Rattle.line_layouts.specs.declared.Tagging.{Tagging}
 use Rattle.line_layouts.specs.declared.Tagging.TheVariants.{Known, Other}
@@ -336,7 +337,8 @@ never_none {A} sep (c ∷ cs) (x ∷ es) r e all =
     there : given c x ≡ true
     there =
         both_left (given c x) (entry_allowed sep x)
-        (both_right (entry_fits c x) (given c x && entry_allowed sep x) (both_left (tells sep c x) (all_tell sep cs es) e))
+        (both_right (entry_fits c x) (given c x && entry_allowed sep x) (both_left (tells sep c x)
+        (all_tell sep cs es) e))
 
     go : (t : Bool) → c.2 ≡ t → (required cs ≡ true → A) → A
     go true f more = let none : x ≡ Missing = all 0 in false_true (rw (none, f) at there)

@@ -56,7 +56,8 @@ module _ (s : List ℕ) (some : length s ≡ 0 → ⊥) where
   pub letter_fail : (get_or s 0 0 ≡ code "P" → ⊥) → letter_fits s ≡ eqb (get_or s 0 0) (code "F")
   letter_fail e = go s some e
     where
-      go : (t : List ℕ) → (length t ≡ 0 → ⊥) → (get_or t 0 0 ≡ code "P" → ⊥) → letter_fits t ≡ eqb (get_or t 0 0) (code "F")
+      go : (t : List ℕ) → (length t ≡ 0 → ⊥) → (get_or t 0 0 ≡ code "P" → ⊥)
+          → letter_fits t ≡ eqb (get_or t 0 0) (code "F")
       go [] h f = absurd (h refl)
       go (b ∷ bs) h f = rw (ne_eqb b (code "P") f)
 

@@ -21,7 +21,8 @@ use Rattle.line_layouts.proofs.Laid.{most_columns_lem, back_inside}
 use Rattle.line_layouts.proofs.Fills.{map_take, padded_at, length_padded, stored_all, says, Withins}
 use Rattle.line_texts.specs.declared.Cut.{Cut}
 use Rattle.line_texts.specs.Pieces.{split, gathered, entry_in, entries_in}
-use Rattle.line_texts.specs.Places.{no_place, places_from, places_of, places_in, said_in, fields_in, line_in, short, CutAt}
+use Rattle.line_texts.specs.Places.{no_place, places_from, places_of, places_in, said_in, fields_in, line_in}
+use Rattle.line_texts.specs.Places.{short, CutAt}
 use Rattle.line_texts.proofs.Joins.{joined, lined, split_lined}
 use Rattle.line_texts.proofs.Fits.{said_holds, short_columns}
 
@@ -32,7 +33,8 @@ module _ (s : List ℕ) where
   Inside n = n.at + n.len ≤ length s
 
   stands : (sep : ℕ) (ps : List (List ℕ)) (at : ℕ) → drop at s ≡ lined sep ps → at ≤ length s → (i : ℕ)
-      → Inside (get_or (places_from at ps) i no_place) × (named s (get_or (places_from at ps) i no_place) ≡ get_or ps i [])
+      → Inside (get_or (places_from at ps) i no_place) × (named s (get_or (places_from at ps) i no_place)
+      ≡ get_or ps i [])
   unfolding places_from joined
   stands sep [] at e h i = (omega arith, refl)
   stands sep (p ∷ []) at e h zero = (omega (arith, length-drop at s, ap length e), rw e (take-length p))
@@ -116,7 +118,8 @@ module _ (s : List ℕ) where
   field_at_lem (c ∷ cs) (n ∷ ns) (suc j) e h = field_at_lem cs ns j (omega arith) (omega arith)
 
   fields_say : (cs : List Column) (ns : List Name) → each short cs ≡ true
-      → ((i : ℕ) → Inside s (get_or ns i no_place)) → map (says s) (fields_in s cs ns) ≡ entries_in cs (map (named s) ns)
+      → ((i : ℕ) → Inside s (get_or ns i no_place))
+      → map (says s) (fields_in s cs ns) ≡ entries_in cs (map (named s) ns)
   unfolding fields_in entries_in
   fields_say [] ns few all = refl
   fields_say (c ∷ cs) [] few all = refl

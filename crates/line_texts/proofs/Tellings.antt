@@ -33,7 +33,8 @@ module _ (sep : ℕ) where
   tell_given (c ∷ cs) (e ∷ es) t =
       let one = both_left (tells sep c e) (all_tell sep cs es) t in
       rw (
-        both_left (given c e) (entry_allowed sep e) (both_right (entry_fits c e) (given c e && entry_allowed sep e) one),
+        both_left (given c e) (entry_allowed sep e) (both_right (entry_fits c e)
+            (given c e && entry_allowed sep e) one),
         tell_given cs es (both_right (tells sep c e) (all_tell sep cs es) t),
       )
 
@@ -45,7 +46,8 @@ module _ (sep : ℕ) where
   tell_allowed (c ∷ cs) (e ∷ es) t =
       let one = both_left (tells sep c e) (all_tell sep cs es) t in
       rw (
-        both_right (given c e) (entry_allowed sep e) (both_right (entry_fits c e) (given c e && entry_allowed sep e) one),
+        both_right (given c e) (entry_allowed sep e) (both_right (entry_fits c e)
+            (given c e && entry_allowed sep e) one),
         tell_allowed cs es (both_right (tells sep c e) (all_tell sep cs es) t),
       )
 

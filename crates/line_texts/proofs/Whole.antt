@@ -76,7 +76,8 @@ ending_empty [] e = refl
 ending_empty (b ∷ bs) e = absurd (omega arith)
 
 -- one byte is not two
-pub ending_two : (s : List ℕ) → (length s ≡ 0 → ⊥) → from_end 2 s ≡ carriage_return → from_end 1 s ≡ line_feed → 2 ≤ length s
+pub ending_two : (s : List ℕ) → (length s ≡ 0 → ⊥) → from_end 2 s ≡ carriage_return → from_end 1 s ≡ line_feed
+    → 2 ≤ length s
 ending_two [] some e f = absurd (some refl)
 ending_two (b ∷ []) some e f = absurd (omega (arith, e, f))
 ending_two (b ∷ c ∷ bs) some e f = omega arith

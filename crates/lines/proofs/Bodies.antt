@@ -104,7 +104,8 @@ laid_most ends k (c ∷ cs) [] s e = false_true e
 laid_most ends k (c ∷ cs) (x ∷ es) s e =
     let here = stored_room ends c.0 c.1 c.3 x (form_sound_lem k c cs s)
     (both_left (entry_fits c x) (entries_fit cs es) e) in
-    let behind = laid_most ends (k - 1) cs es (rest_sound k c cs s) (both_right (entry_fits c x) (entries_fit cs es) e) in
+    let behind = laid_most ends (k - 1) cs es (rest_sound k c cs s) (both_right (entry_fits c x)
+    (entries_fit cs es) e) in
     omega (arith, laid_kept ends c cs k x (present (k - 1) es), here, behind)
 
 total_most : (tag : Tag) → total (columns tag) ≤ most_body tag

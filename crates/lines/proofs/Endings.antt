@@ -53,7 +53,8 @@ both_ends s =
     let t = carriage_return ∷ line_feed ∷ [] in
     ending_both (s ++ t) (back_in s t 2 (omega arith)) (back_in s t 1 (omega arith))
 
-ends : (s : List ℕ) (e : Ending) → is_break (from_end 1 s) ≡ false → ending (s ++ ending_bytes e) ≡ length (ending_bytes e)
+ends : (s : List ℕ) (e : Ending) → is_break (from_end 1 s) ≡ false
+    → ending (s ++ ending_bytes e) ≡ length (ending_bytes e)
 unfolding ending
 ends s Nothing h =
     rw (append-nil s) (ending_none s (not_feed (from_end 1 s) h) (not_return (from_end 1 s) h))

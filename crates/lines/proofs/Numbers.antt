@@ -147,7 +147,8 @@ module _ (order : Order) (old : List ℕ) (at : ℕ) where
 pub write_number : WriteNumber
 write_number cpu s old at bytes =
     order_number (λ (o : Ordering). written_number (placed (text_in o s) old at).answer)
-    (λ (order : Order). write_checks order s old at) refl (λ order. record_number_lem order old at s bytes) (order_of cpu)
+    (λ (order : Order). write_checks order s old at) refl (λ order. record_number_lem order old at s bytes)
+    (order_of cpu)
 
 -- ---- reading: 18
 

@@ -99,7 +99,8 @@ decimal_grows n [] = omega arith
 decimal_grows n (b ∷ bs) = omega (arith, decimal_grows (n * 10 + (b - code "0")) bs)
 
 -- so a number that is capped on the way is capped as the whole is
-pub capped_on : (most n : ℕ) (s : List ℕ) → capped most (decimal_from n s) ≡ capped most (decimal_from (capped most n) s)
+pub capped_on : (most n : ℕ) (s : List ℕ)
+    → capped most (decimal_from n s) ≡ capped most (decimal_from (capped most n) s)
 capped_on most n s =
     capped_by most n (λ (k : ℕ). capped most (decimal_from n s) ≡ capped most (decimal_from k s)) (λ low. refl)
     (λ high. capped_from most (decimal_from n s) (omega (arith, high, decimal_grows n s))

@@ -3,9 +3,9 @@
 use mathlib.Core.Path.{refl}
 use Prim.Native.Nat.{◌+◌}
 use native.Mathlib.Omega.{arith}
-use Rattle.output.proofs.Laws.{first, inside, behind, both}
+use Rattle.output.proofs.Laws.{first, behind, both}
 use Rattle.line_layouts.specs.Layouts.{nth_bytes, rest_of}
-use Rattle.line_layouts.proofs.Laid.{rest_on, rest_ends, most_columns_lem}
+use Rattle.line_layouts.proofs.Laid.{rest_on, rest_ends}
 use Rattle.line_laying.proofs.+put_fields.Goals as goal
 
 pub returns-then-n-j : goal.returns-then-n-j
@@ -23,21 +23,6 @@ put_nth-k-requires t c =
       first (nth_bytes a.layout src a.line a.j a.n) (rest_of a.layout src a.line (a.j + 1) a.n)
           a.out.now (rw on at c.requires.2),
     )
-
-pub slice_bounds-put_fields-count : goal.slice_bounds-put_fields-count
-slice_bounds-put_fields-count t c =
-    let a = c.args in
-    let src = a.source.now in
-    let p = c.put_nth-k in
-    let on = rest_on src a.line c.requires.0.full a.layout a.j a.n (omega arith) c.requires.1 in
-    inside (nth_bytes a.layout src a.line a.j a.n) (rest_of a.layout src a.line (a.j + 1) a.n)
-    a.out.now (rw on at c.requires.2) p.new.out p.result p.ensures
-
-pub slice_bounds-put_fields-start : goal.slice_bounds-put_fields-start
-slice_bounds-put_fields-start t c = slice_bounds-put_fields-count t c
-
-pub overflow_add-j : goal.overflow_add-j
-overflow_add-j t c = omega (arith, c.requires.1, most_columns_lem c.args.line.tag)
 
 pub put_fields-requires : goal.put_fields-requires
 put_fields-requires t c =
@@ -66,6 +51,3 @@ returns t c =
     (both (nth_bytes a.layout src a.line a.j a.n) (rest_of a.layout src a.line (a.j + 1) a.n)
     a.out.now (rw on at c.requires.2) p.new.out p.result p.ensures q.new.out q.result
     q.ensures)
-
-pub overflow_add-result : goal.overflow_add-result
-overflow_add-result t c = record { fits = omega (arith, (returns t c).count, c.requires.2) }

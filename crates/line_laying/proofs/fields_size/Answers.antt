@@ -3,19 +3,8 @@
 use mathlib.Core.Path.{ap}
 use native.Mathlib.Omega.{arith}
 use lib.ListN.{length}
-use Rattle.line_layouts.proofs.Laid.{rest_length, most_columns_lem, rest_ends}
+use Rattle.line_layouts.proofs.Laid.{rest_length, rest_ends}
 use Rattle.line_laying.proofs.fields_size.Goals as goal
-
-pub loop-j-init : goal.loop-j-init
-loop-j-init c = (omega arith, omega arith, omega arith)
-
-pub nth_size-size-requires : goal.nth_size-size-requires
-nth_size-size-requires c =
-    record { there = c.requires.0; before = omega arith; few = c.requires.1 }
-
-pub overflow_add-size : goal.overflow_add-size
-overflow_add-size c =
-    omega (arith, c.requires.1, most_columns_lem c.args.line.tag, c.nth_size-size.ensures.1)
 
 pub loop-j-preserved : goal.loop-j-preserved
 loop-j-preserved c =

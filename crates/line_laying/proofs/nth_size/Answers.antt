@@ -8,9 +8,6 @@ use Rattle.line_layouts.specs.Layouts.{nth_bytes}
 use Rattle.line_layouts.proofs.Laid.{most_columns_lem, column_inside, marked_size}
 use Rattle.line_laying.proofs.nth_size.Goals as goal
 
-pub column_of-i-requires : goal.column_of-i-requires
-column_of-i-requires c = omega (arith, c.requires.before, c.requires.few)
-
 pub said_at-said-requires : goal.said_at-said-requires
 said_at-said-requires c =
     let a = c.args in
@@ -26,16 +23,6 @@ column_at-column-requires c =
     let a = c.args in
     rw c.column_of-i.ensures
     (column_inside a.layout a.line.tag a.j (omega (arith, c.requires.before, c.requires.few)))
-
-pub entry_size-requires : goal.entry_size-requires
-entry_size-requires c =
-    rw c.said_at-said.ensures
-    (c.requires.there.within c.column_of-i.result)
-
-pub stored_size-requires : goal.stored_size-requires
-stored_size-requires c =
-    rw c.said_at-said.ensures
-    (c.requires.there.within c.column_of-i.result)
 
 pub returns-in-Text : goal.returns-in-Text
 unfolding nth_bytes

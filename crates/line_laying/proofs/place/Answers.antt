@@ -1,26 +1,19 @@
 -- `line_laying::place` meets its contract: refused where the whole does not fit, else written at its offset.
 -- Assumes nothing.
 use mathlib.Core.Path.{◌≡◌}
-use Prim.Native.Nat.{◌+◌, ◌≤◌}
+use Prim.Native.Nat.{◌+◌}
 use native.Mathlib.Omega.{arith}
 use lib.ListN.{length}
 use Rattle.output.proofs.Laws.{place_short, place_room, place_done}
 use Rattle.line_layouts.specs.Entries.{meaning_of}
 use Rattle.line_layouts.specs.Layouts.{Sized, laid_out}
-use Rattle.line_layouts.proofs.Laid.{laid_size, most_columns_lem}
+use Rattle.line_layouts.proofs.Laid.{laid_size}
 use Rattle.line_laying.proofs.place.Goals as goal
 
 pub returns-then-out-at : goal.returns-then-out-at
 returns-then-out-at c =
     let a = c.args in
     place_short (laid_out a.layout (meaning_of a.source.now a.line)) a.out.now a.at (omega arith)
-
-pub overflow_add-size : goal.overflow_add-size
-overflow_add-size c =
-    let small : c.fields_size-size.result ≤ 3584 =
-    let p = c.present_count-n.ensures.few in
-    omega (arith, p, most_columns_lem c.args.line.tag, c.fields_size-size.ensures.1) in
-    record { fits = omega (arith, small) }
 
 pub returns-then-out-at-2 : goal.returns-then-out-at-2
 returns-then-out-at-2 c =
@@ -36,13 +29,6 @@ returns-then-out-at-2 c =
     sized in
     place_short (laid_out a.layout (meaning_of a.source.now a.line)) a.out.now a.at
     (omega (arith, total))
-
-pub overflow_cast-size : goal.overflow_cast-size
-overflow_cast-size c =
-    let small : c.fields_size-size.result ≤ 3584 =
-    let p = c.present_count-n.ensures.few in
-    omega (arith, p, most_columns_lem c.args.line.tag, c.fields_size-size.ensures.1) in
-    record { fits = omega (arith, small) }
 
 pub put_all-k-requires : goal.put_all-k-requires
 put_all-k-requires c =

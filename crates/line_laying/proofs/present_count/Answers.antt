@@ -7,24 +7,10 @@ use lib.ListN.{length, get_or}
 use Rattle.line_layouts.specs.Columns.{columns}
 use Rattle.line_layouts.specs.Entries.{no_field}
 use Rattle.line_layouts.specs.Layouts.{bar_in, column_of}
-use Rattle.line_layouts.proofs.Laid.{most_columns_lem, column_inside, bar_few, stop_first, stop_missing, stop_value}
+use Rattle.line_layouts.proofs.Laid.{most_columns_lem, column_inside, stop_missing, stop_value}
 use Rattle.line_layouts.proofs.Laid.{stop_all}
 use Rattle.line_laying.proofs.present_count.Goals as goal
 use Rattle.line_laying.proofs.present_count.Goals.{then-not-is_missing, else-not-is_missing}
-
-pub loop-j-init : goal.loop-j-init
-loop-j-init c =
-    let a = c.args in
-    let few = bar_few a.layout a.line.tag in
-    let is = c.bar_in-n.ensures in (
-      omega (arith, few, is, c.column_count-count.ensures.0),
-      omega (arith, is),
-      omega arith,
-      λ source. rw is (stop_first source a.line c.requires a.layout (bar_in a.layout a.line.tag)),
-    )
-
-pub column_of-requires : goal.column_of-requires
-column_of-requires c = omega (arith, c.column_count-count.ensures.0)
 
 pub said_at-requires : goal.said_at-requires
 said_at-requires c =

@@ -5,9 +5,6 @@ use Rattle.line_layouts.specs.Layouts.{nth_bytes}
 use Rattle.line_layouts.proofs.Laid.{most_columns_lem, column_inside}
 use Rattle.line_laying.proofs.put_nth.Goals as goal
 
-pub column_of-i-requires : goal.column_of-i-requires
-column_of-i-requires c = omega (arith, c.requires.0.before, c.requires.0.few)
-
 pub said_at-said-requires : goal.said_at-said-requires
 said_at-said-requires c =
     let a = c.args in

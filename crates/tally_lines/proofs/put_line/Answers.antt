@@ -43,6 +43,3 @@ returns c =
     c.put_cells.ensures
     in
     record { put = all; few = omega (arith, all.count, most) }
-
-pub overflow_add-result : goal.overflow_add-result
-overflow_add-result c = record { fits = omega (arith, (returns c).few) }

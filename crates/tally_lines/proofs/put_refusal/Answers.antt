@@ -1,7 +1,7 @@
 -- `tally_lines::put_refusal` meets its contract: its number, then the record's in the part behind it.
 -- Assumes nothing.
 use native.Mathlib.Omega.{arith}
-use Rattle.output.proofs.Laws.{first, inside, behind, both}
+use Rattle.output.proofs.Laws.{first, behind, both}
 use Rattle.output.specs.Placed.{Room}
 use Rattle.tally_lines.specs.Lines.{refused_word, numbered, at_ending, refusal}
 use Rattle.tally_lines.proofs.Lines.{refused_most}
@@ -17,22 +17,6 @@ put_numbered-n-requires c =
     ) in
     let a = c.args in
     first (numbered refused_word a.number) (at_ending a.k a.values) a.out.now room
-
-pub slice_bounds-put_record-count : goal.slice_bounds-put_record-count
-slice_bounds-put_record-count c =
-    let room : Room (refusal c.args.number c.args.values c.args.k) c.args.out.now =
-    omega (
-      arith,
-      refused_most c.args.k (omega arith) c.args.number c.args.values (omega arith) c.requires.1,
-      c.requires.0,
-    ) in
-    let a = c.args in
-    inside (numbered refused_word a.number) (at_ending a.k a.values) a.out.now room c.put_numbered-n.new.out
-    c.put_numbered-n.result
-    c.put_numbered-n.ensures
-
-pub slice_bounds-put_record-start : goal.slice_bounds-put_record-start
-slice_bounds-put_record-start c = slice_bounds-put_record-count c
 
 pub put_record-requires : goal.put_record-requires
 put_record-requires c =
@@ -59,13 +43,3 @@ returns c =
     both (numbered refused_word a.number) (at_ending a.k a.values) a.out.now room c.put_numbered-n.new.out
     c.put_numbered-n.result
     c.put_numbered-n.ensures c.put_record.new.out c.put_record.result c.put_record.ensures
-
-pub overflow_add-result : goal.overflow_add-result
-overflow_add-result c =
-    let room : Room (refusal c.args.number c.args.values c.args.k) c.args.out.now =
-    omega (
-      arith,
-      refused_most c.args.k (omega arith) c.args.number c.args.values (omega arith) c.requires.1,
-      c.requires.0,
-    ) in
-    record { fits = omega (arith, (returns c).count, room, c.well_formed.0.0) }

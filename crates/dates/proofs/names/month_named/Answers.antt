@@ -32,8 +32,3 @@ loop-i-preserved c =
     ≡ suc (named_in (drop (suc i) month_names) x.a x.b x.c) =
     rw (named_on i x.a x.b x.c (omega arith), isnt) in
     rw (add-one i) (omega arith, omega (arith, c.loop-i.invariant.1))
-
-pub returns : goal.returns
-returns c =
-    let all : c.loop-i.i ≡ 12 = omega arith in
-    (sym (rw all at c.loop-i.invariant.1), omega arith)

@@ -3,9 +3,8 @@
 use mathlib.Core.Path.{◌≡◌}
 use mathlib.Core.List.{List, ◌++◌}
 use Prim.Native.Nat.{ℕ}
-use native.Mathlib.Omega.{arith}
 use Rattle.output.specs.Placed.{Room}
-use Rattle.output.proofs.Laws.{first, inside, behind, both}
+use Rattle.output.proofs.Laws.{first, behind, both}
 use Rattle.digits.specs.Digits.{digits}
 use Rattle.dates.specs.Dates.{date_text}
 use Rattle.dates.proofs.Laws.{date_made}
@@ -21,21 +20,6 @@ put_number-k-requires c =
     moment.ensures.0 c.past_hour-clock.ensures c.past_day-calendar.ensures in
     let room : Room (clock ++ calendar) c.args.out.now = rw text-is c.requires in
     first clock calendar c.args.out.now room
-
-pub slice_bounds-put_number-count : goal.slice_bounds-put_number-count
-slice_bounds-put_number-count c =
-    let clock : List ℕ = digits c.moment_of-m.result.hour ++ c.past_hour-clock.result in
-    let calendar : List ℕ = digits c.moment_of-m.result.day ++ c.past_day-calendar.result in
-    let text-is : clock ++ calendar ≡ date_text c.args.t =
-    let moment = c.moment_of-m in
-    date_made c.args.t moment.result c.past_hour-clock.result c.past_day-calendar.result
-    moment.ensures.0 c.past_hour-clock.ensures c.past_day-calendar.ensures in
-    let room : Room (clock ++ calendar) c.args.out.now = rw text-is c.requires in
-    inside clock calendar c.args.out.now room c.put_number-k.new.out
-    c.put_number-k.result c.put_number-k.ensures
-
-pub slice_bounds-put_number-start : goal.slice_bounds-put_number-start
-slice_bounds-put_number-start c = slice_bounds-put_number-count c
 
 pub put_number-requires : goal.put_number-requires
 put_number-requires c =
@@ -61,7 +45,3 @@ returns c =
     rw text-is at (both clock calendar c.args.out.now room
     c.put_number-k.new.out c.put_number-k.result c.put_number-k.ensures
     c.put_number.new.out c.put_number.result c.put_number.ensures)
-
-pub overflow_add-result : goal.overflow_add-result
-overflow_add-result c =
-    record { fits = omega (arith, (returns c).count, c.requires) }

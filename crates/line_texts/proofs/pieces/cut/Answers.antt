@@ -1,25 +1,16 @@
 -- `line_texts::pieces::cut` meets its contract: the places stored and those left make up the whole.
 -- Assumes nothing.
-use mathlib.Core.Path.{◌≡◌, refl, ◌∙◌}
+use mathlib.Core.Path.{◌≡◌, ◌∙◌}
 use Prim.Native.Nat.{ℕ, ◌+◌, ◌<◌}
 use native.Mathlib.Omega.{arith}
 use lib.ListN.{length, get_or, length-set}
 use lib.Seq.{get_or-take, get_or-drop, drop-drop}
 use Rattle.values.specs.declared.Name.{Name}
-use Rattle.line_layouts.specs.Columns.{columns, most_columns}
-use Rattle.line_layouts.proofs.Fills.{alike_at, stored_on}
+use Rattle.line_layouts.specs.Columns.{columns}
+use Rattle.line_layouts.proofs.Fills.{stored_on}
 use Rattle.line_texts.specs.Places.{no_place, places_of}
 use Rattle.line_texts.proofs.Cuts.{left_few}
 use Rattle.line_texts.proofs.pieces.cut.Goals as goal
-
-pub loop-j-init : goal.loop-j-init
-loop-j-init c = (omega arith, c.requires, refl, alike_at Name no_place most_columns, refl)
-
-pub offset_bounds-places-j : goal.offset_bounds-places-j
-offset_bounds-places-j c = omega (arith, c.column_count-count.ensures.1)
-
-pub bounds-places-j : goal.bounds-places-j
-bounds-places-j c = omega (arith, c.column_count-count.ensures.1)
 
 pub loop-j-preserved : goal.loop-j-preserved
 loop-j-preserved c =

@@ -1,6 +1,6 @@
 -- `line_texts::pieces::fields_fit` meets its contract: the columns left fit their pieces as all of them do.
 -- Assumes nothing.
-use mathlib.Core.Path.{refl, sym, ◌∙◌}
+use mathlib.Core.Path.{sym, ◌∙◌}
 use Prim.Native.Nat.{◌<◌}
 use native.Mathlib.Omega.{arith}
 use lib.ListN.{length, drop}
@@ -9,15 +9,6 @@ use Rattle.line_texts.specs.Pieces.{split, gathered}
 use Rattle.line_texts.proofs.Cuts.{fields_no, fields_on, fields_end}
 use Rattle.line_texts.proofs.Places.{length_gathered, piece_inside, piece_is}
 use Rattle.line_texts.proofs.pieces.fields_fit.Goals as goal
-
-pub loop-j-init : goal.loop-j-init
-loop-j-init c = (omega arith, refl)
-
-pub place_of-place-requires : goal.place_of-place-requires
-place_of-place-requires c = omega (arith, c.column_count-count.ensures.0)
-
-pub column_at-requires : goal.column_at-requires
-column_at-requires c = omega (arith, c.column_count-count.ensures.0)
 
 pub fits_at-requires : goal.fits_at-requires
 fits_at-requires c =

@@ -1,14 +1,14 @@
 -- `line_texts::pieces::fill` meets its contract: the fields filled are the first ones of the line's.
 -- Assumes nothing.
-use mathlib.Core.Path.{◌≡◌, refl, ap, sym, ◌∙◌}
+use mathlib.Core.Path.{◌≡◌, ap, sym, ◌∙◌}
 use Prim.Native.Nat.{◌<◌}
 use native.Mathlib.Omega.{arith}
 use lib.ListN.{length, get_or, drop, length-set}
 use Rattle.line_layouts.specs.declared.Said.{Said}
 use Rattle.line_layouts.specs.declared.Field.{Field}
-use Rattle.line_layouts.specs.Columns.{columns, no_column, most_columns}
+use Rattle.line_layouts.specs.Columns.{columns, no_column}
 use Rattle.line_layouts.specs.Entries.{named, no_field}
-use Rattle.line_layouts.proofs.Fills.{alike_at, stored_on}
+use Rattle.line_layouts.proofs.Fills.{stored_on}
 use Rattle.line_texts.specs.Pieces.{split, gathered}
 use Rattle.line_texts.specs.Places.{no_place, places_in, said_in}
 use Rattle.line_texts.proofs.Cuts.{fields_each}
@@ -22,15 +22,6 @@ use Rattle.line_texts.proofs.Places.{
   filled_all,
 }
 use Rattle.line_texts.proofs.pieces.fill.Goals as goal
-
-pub loop-j-init : goal.loop-j-init
-loop-j-init c = (omega arith, refl, alike_at Field no_field most_columns)
-
-pub place_of-place-requires : goal.place_of-place-requires
-place_of-place-requires c = omega (arith, c.column_count-count.ensures.0)
-
-pub column_at-requires : goal.column_at-requires
-column_at-requires c = omega (arith, c.column_count-count.ensures.0)
 
 pub said_in-said-requires : goal.said_in-said-requires
 said_in-said-requires c =
@@ -47,12 +38,6 @@ said_in-said-requires c =
           (fields_each a.sep (columns a.tag) (gathered a.tag (split a.sep (drop 4 text))) j c.requires.1
           inside),
     )
-
-pub offset_bounds-fields-j : goal.offset_bounds-fields-j
-offset_bounds-fields-j c = omega (arith, c.column_count-count.ensures.1)
-
-pub bounds-fields-j : goal.bounds-fields-j
-bounds-fields-j c = omega (arith, c.column_count-count.ensures.1)
 
 pub loop-j-preserved : goal.loop-j-preserved
 loop-j-preserved c =

@@ -1,11 +1,8 @@
 -- `line_texts::pieces::piece_end` meets its contract: what is passed holds no separator.
 -- Assumes nothing.
 use native.Mathlib.Omega.{arith}
-use Rattle.line_texts.proofs.Cuts.{passed_on, passed_separator, passed_all, passed_none}
+use Rattle.line_texts.proofs.Cuts.{passed_on, passed_separator, passed_all}
 use Rattle.line_texts.proofs.pieces.piece_end.Goals as goal
-
-pub loop-i-init : goal.loop-i-init
-loop-i-init c = (omega arith, c.requires, passed_none c.args.sep c.args.text.now c.args.from)
 
 pub returns-then-text-i : goal.returns-then-text-i
 returns-then-text-i c =

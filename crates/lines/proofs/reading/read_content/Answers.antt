@@ -25,6 +25,3 @@ returns-in-None c =
       ← taken.means,
       c.in-None.is,
     ) c.place.ensures
-
-pub refuse-requires : goal.refuse-requires
-refuse-requires c = tt

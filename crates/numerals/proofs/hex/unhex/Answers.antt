@@ -1,15 +1,12 @@
--- `numerals::hex::unhex` meets its contract: at each turn the first bytes are laid over the line, and what is still to be
--- read stands behind them.
+-- `numerals::hex::unhex` meets its contract: at each turn the first bytes are laid over the line, and what is still
+-- to be read stands behind them.
 -- Assumes nothing.
-use mathlib.Core.Path.{◌≡◌, refl, ◌∙◌}
+use mathlib.Core.Path.{◌≡◌, ◌∙◌}
 use Prim.Native.Nat.{◌-◌, ◌/◌}
 use native.Mathlib.Omega.{arith}
 use lib.ListN.{length, drop, length-set, length-drop}
 use Rattle.numerals.proofs.HexLaws.{bytes_half, laid_byte, laid_all}
 use Rattle.numerals.proofs.hex.unhex.Goals as goal
-
-pub loop-i-init : goal.loop-i-init
-loop-i-init c = (omega arith, refl, c.half-n.ensures.0, omega arith, refl)
 
 pub loop-i-preserved : goal.loop-i-preserved
 loop-i-preserved c =
@@ -33,36 +30,3 @@ returns c =
       },
       omega arith,
     )
-
-pub overflow_sub-line : goal.overflow_sub-line
-overflow_sub-line c = omega arith
-
-pub half-n-requires : goal.half-n-requires
-half-n-requires c = tt
-
-pub overflow_mul-at : goal.overflow_mul-at
-overflow_mul-at c = omega arith
-
-pub overflow_add-at : goal.overflow_add-at
-overflow_add-at c = omega arith
-
-pub bounds-line-at : goal.bounds-line-at
-bounds-line-at c = omega arith
-
-pub overflow_add-at-in-loop-i : goal.overflow_add-at-in-loop-i
-overflow_add-at-in-loop-i c = omega arith
-
-pub bounds-line-at-in-loop-i : goal.bounds-line-at-in-loop-i
-bounds-line-at-in-loop-i c = omega arith
-
-pub byte_of-requires : goal.byte_of-requires
-byte_of-requires c = tt
-
-pub bounds-line-i : goal.bounds-line-i
-bounds-line-i c = omega arith
-
-pub overflow_add-i : goal.overflow_add-i
-overflow_add-i c = omega arith
-
-pub loop-i-smaller : goal.loop-i-smaller
-loop-i-smaller c = omega arith

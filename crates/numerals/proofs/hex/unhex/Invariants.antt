@@ -1,5 +1,5 @@
--- `numerals::hex::unhex` meets its contract: at each turn the first bytes are laid over the line, and what is still to be
--- read stands behind them.
+-- `numerals::hex::unhex` meets its contract: at each turn the first bytes are laid over the line, and what is still
+-- to be read stands behind them.
 -- Assumes nothing.
 use mathlib.Core.Path.{◌≡◌}
 use Prim.Native.Nat.{◌-◌, ◌/◌, ◌≤◌}
@@ -9,8 +9,10 @@ use Rattle.numerals.specs.Hex.{bytes_of}
 use Rattle.numerals.proofs.hex.unhex.Given as goal
 
 abbrev pub invariant-loop-i : goal.invariant-loop-i
-invariant-loop-i l = (l.i ≤ l.n) × (length l.line ≡ length l.initial.line) × (l.n ≡ (length l.initial.line - l.from) / 2) × (l.from ≤ length l.initial.line) ×
-    (l.line ≡ over (take l.i (bytes_of (drop l.from l.initial.line))) l.initial.line)
+invariant-loop-i l =
+    (l.i ≤ l.n) × (length l.line ≡ length l.initial.line) × (l.n ≡ (length l.initial.line - l.from) / 2)
+    × (l.from ≤ length l.initial.line)
+    × (l.line ≡ over (take l.i (bytes_of (drop l.from l.initial.line))) l.initial.line)
 
 abbrev pub decreases-loop-i : goal.decreases-loop-i
 decreases-loop-i l = l.n - l.i

@@ -21,27 +21,3 @@ returns c =
     found_last line a.from c.word_end-e.result (omega arith) c.word_end-e.ensures.0 a.verb
     (λ (ws : List Word). ws) c.ask_one-asked.result
     c.if-e-line.false refl c.ask_one-asked.ensures
-
-pub slice_bounds-cut_second-count : goal.slice_bounds-cut_second-count
-slice_bounds-cut_second-count c = omega arith
-
-pub slice_bounds-cut_second-start : goal.slice_bounds-cut_second-start
-slice_bounds-cut_second-start c = omega arith
-
-pub slice_bounds-cut_second-end : goal.slice_bounds-cut_second-end
-slice_bounds-cut_second-end c = omega arith
-
-pub overflow_add-e : goal.overflow_add-e
-overflow_add-e c = omega arith
-
-pub slice_bounds-ask_one-count : goal.slice_bounds-ask_one-count
-slice_bounds-ask_one-count c = omega arith
-
-pub slice_bounds-ask_one-start : goal.slice_bounds-ask_one-start
-slice_bounds-ask_one-start c = omega arith
-
-pub slice_bounds-ask_one-end : goal.slice_bounds-ask_one-end
-slice_bounds-ask_one-end c = omega arith
-
-pub ask_one-asked-requires : goal.ask_one-asked-requires
-ask_one-asked-requires c = tt

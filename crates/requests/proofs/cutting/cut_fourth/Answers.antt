@@ -28,18 +28,3 @@ returns c =
     found_last line a.from c.word_end-e.result (omega arith) c.word_end-e.ensures.0 a.verb
     (λ (ws : List Word). a.order.now ∷ a.at.now ∷ a.long.now ∷ ws) c.ask_four-asked.result
     c.if-e-line.false refl c.ask_four-asked.ensures
-
-pub no_call-requires : goal.no_call-requires
-no_call-requires c = tt
-
-pub slice_bounds-ask_four-count : goal.slice_bounds-ask_four-count
-slice_bounds-ask_four-count c = omega arith
-
-pub slice_bounds-ask_four-start : goal.slice_bounds-ask_four-start
-slice_bounds-ask_four-start c = omega arith
-
-pub slice_bounds-ask_four-end : goal.slice_bounds-ask_four-end
-slice_bounds-ask_four-end c = omega arith
-
-pub ask_four-asked-requires : goal.ask_four-asked-requires
-ask_four-asked-requires c = tt

@@ -22,27 +22,3 @@ returns c =
     found_last line a.from c.word_end-e.result (omega arith) c.word_end-e.ensures.0 a.verb
     (λ (ws : List Word). a.first.now ∷ a.second.now ∷ ws) c.ask_three-asked.result
     c.if-e-line.false refl c.ask_three-asked.ensures
-
-pub slice_bounds-cut_fourth-count : goal.slice_bounds-cut_fourth-count
-slice_bounds-cut_fourth-count c = omega arith
-
-pub slice_bounds-cut_fourth-start : goal.slice_bounds-cut_fourth-start
-slice_bounds-cut_fourth-start c = omega arith
-
-pub slice_bounds-cut_fourth-end : goal.slice_bounds-cut_fourth-end
-slice_bounds-cut_fourth-end c = omega arith
-
-pub overflow_add-e : goal.overflow_add-e
-overflow_add-e c = omega arith
-
-pub slice_bounds-ask_three-count : goal.slice_bounds-ask_three-count
-slice_bounds-ask_three-count c = omega arith
-
-pub slice_bounds-ask_three-start : goal.slice_bounds-ask_three-start
-slice_bounds-ask_three-start c = omega arith
-
-pub slice_bounds-ask_three-end : goal.slice_bounds-ask_three-end
-slice_bounds-ask_three-end c = omega arith
-
-pub ask_three-asked-requires : goal.ask_three-asked-requires
-ask_three-asked-requires c = tt

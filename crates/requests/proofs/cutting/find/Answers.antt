@@ -27,12 +27,3 @@ returns c =
     let line = c.args.line.now in
     hands_none line _ (c.cut_line-cut.ensures.asks_for ∙ asked_words line (omega arith) c.if-line-eq35.false) _
     refl (sym c.hands_over.ensures ∙ c.if-hands_over.false)
-
-pub bounds-line-0 : goal.bounds-line-0
-bounds-line-0 c = omega arith
-
-pub cut_line-cut-requires : goal.cut_line-cut-requires
-cut_line-cut-requires c = tt
-
-pub hands_over-requires : goal.hands_over-requires
-hands_over-requires c = tt

@@ -1,8 +1,0 @@
--- `dates::reading::byte_at` meets its contract: past the end there is nothing, which counts as 0.
--- Assumes nothing.
-use mathlib.Core.Path.{sym}
-use lib.ListN.{get_or-eq_default}
-use Rattle.dates.proofs.reading.byte_at.Goals as goal
-
-pub returns : goal.returns
-returns c = sym (get_or-eq_default c.args.s.now 0 c.if-i-s.false)
