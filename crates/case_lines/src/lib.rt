@@ -2,12 +2,12 @@
 // call answers stands behind it. A line without a label only sets something up. A verb is known by its first letter.
 // Bytes are words in lower case hexadecimal, one behind the other; `HEX*N` is such a word N times, and a word that is
 // neither is said as `?`. Lines that begin with `#`, and empty ones, are copied. A write that fails is answered with its
-// error, and nothing is said then of what stands in the lent buffers.
+// error: the lent buffers keep their lengths, and what stands in them is left open.
 #![tactic(auto)]
 
 mod saying;
 
-ghost use Rattle.std.specs.Prelude.{◌≡◌, false, ◌+◌, ◌≤◌, length, IfOk};
+ghost use Rattle.std.specs.Prelude.{◌≡◌, false, ◌+◌, ◌≤◌, length, IfOk, OnErr};
 
 use input::{Found, Input, next_line, until};
 use numerals::{Number, is_hex, number_of, unhex};
@@ -167,7 +167,8 @@ pub fn next_call(
     line: &mut [u8],
     out: &mut [u8],
 ) -> io::Result<Call>
-    ensures { IfOk result (λ r. r.bytes ≤ length out.new) }
+    ensures found { IfOk result (λ r. r.bytes ≤ length out.new) }
+    ensures failed { OnErr result (length out.new ≡ length out.old) }
 {
     let before = last.input;
     let next = next_line(stdin, before, chunk, line);

@@ -4,7 +4,7 @@
 #![tactic(auto)]
 
 ghost use Rattle.std.specs.Prelude.{◌≡◌, ◌+◌, ◌≤◌, length, take};
-ghost use Rattle.order.specs.Laws.{ended as isEnded};
+ghost use Rattle.order.specs.Laws.{ended as is_ended};
 ghost use Rattle.output.specs.Placed.{Put};
 ghost use Rattle.walking.specs.Lent.{past_count};
 ghost use Rattle.tallying.specs.Text.{report_lines, left_over, stopped_line, ended_with, ended};
@@ -62,7 +62,7 @@ fn put_rows(out: &mut [u8], h: House) -> usize
 }
 
 fn is_ended(place: Place) -> bool
-    ensures { result ≡ isEnded place }
+    ensures { result ≡ is_ended place }
 {
     match place {
         Place::Start => false,
