@@ -4,9 +4,11 @@ use mathlib.Core.Path.{◌≡◌, sym, subst, ◌∙◌}
 use mathlib.Core.Bool.{true, false, not}
 use Prim.Native.Nat.{ℕ, ◌-◌, ◌≤◌, ◌<◌}
 use native.Mathlib.Omega.{arith}
+use borrow.Author.Rules.{rules}
 use borrow.Author.Tests.{not-true, not-false}
 use Rattle.house.specs.declared.House.{House}
 use Rattle.house.specs.declared.Soundness.{Soundness}
+use Rattle.house.specs.Calls.{slot_at}
 use Rattle.house.specs.House.{sound, soundness, promised}
 use Rattle.house.proofs.Laws.{told_sound, told_unsound, told_promised}
 use Rattle.house.proofs.Calling.{told_within, told_rooms, open_unsound, open_no_slot, open_high, open_taken}
@@ -65,9 +67,10 @@ returns-then-spare-floor c =
     let fine = sounded c.args.house _ c.soundness_of-told.ensures c.if-not-told.false in
     let owing = owed c.args.house _ c.soundness_of-told.ensures c.if-not-told.false in
     let a = c.args in
+    let vacant : (slot_at a.house a.slot).taken ≡ false = search rules in
     c.answer_with-then-spare-floor.ensures
     ∙ sym
-    (open_no_room _ _ _ fine c.if-i-ge-SLOTS.false c.if-floor-gt-ROWS.false c.if-s.false
+    (open_no_room _ _ _ fine c.if-i-ge-SLOTS.false c.if-floor-gt-ROWS.false vacant
     (subst (λ (n : ℕ). 1024 - a.house.used - n < a.floor) owing c.if-spare-floor.true))
 
 pub returns : goal.returns
