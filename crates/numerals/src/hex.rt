@@ -24,6 +24,7 @@ fn byte_of(high: u8, low: u8) -> u8
 }
 
 // Whether a word is bytes in hexadecimal, at least one.
+#[tactic(auto, using(crate::proofs::HexLaws::hex_odd))]
 pub fn is_hex(word: &[u8]) -> bool
     ensures { result ≡ is_hex word.now }
 {
