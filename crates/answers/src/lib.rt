@@ -1,7 +1,7 @@
 // The answers of every call: document 01, "Refusal numbers".
 #![tactic(auto)]
 
-ghost use Rattle.std.specs.Prelude.{◌≡◌, ◌<◌};
+ghost use Rattle.std.specs.Prelude.{◌≡◌, Some, ◌<◌};
 ghost use Rattle.answers.specs.Numbers.{saying_of, number_of, OfBytes};
 
 #[derive(Clone, Copy)]
@@ -35,29 +35,22 @@ pub enum Answer {
     WaferOpen,
 }
 
-// What an answer carries beside its number: nothing, or the head and the site of a part.
-#[derive(Clone, Copy)]
-pub enum Values {
-    Nothing,
-    Part(u8, u8),
-}
-
 // An answer's number and its values.
 #[derive(Clone, Copy)]
-pub struct Saying(pub u8, pub Values);
+pub struct Saying(pub u8, pub Option<(u8, u8)>);
 
 // Answer 12, which alone carries something.
 fn named(head: u8, site: u8) -> Saying
-    ensures { (result ≡ (12, Values.Part head site)) × ((head < 256) × (site < 256)) }
+    ensures { (result ≡ (12, Some (head, site))) × ((head < 256) × (site < 256)) }
 {
-    Saying(12, Values::Part(head, site))
+    Saying(12, Some((head, site)))
 }
 
 // The number that document 01 gives an answer, and the values that it carries, each of them one byte.
 pub fn said(a: Answer) -> Saying
     ensures { (result ≡ saying_of a) × OfBytes result.1 }
 {
-    let none = Values::Nothing;
+    let none = None;
     match a {
         Answer::Done => Saying(0, none),
         Answer::NoSuchSlot => Saying(1, none),

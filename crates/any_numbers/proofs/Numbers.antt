@@ -2,6 +2,7 @@
 -- lengths of 1,024 or more have room for a report, and none above 65,539 is a carry's. Orders above 2, and places past
 -- the end, are refused alike, too.
 -- Assumes nothing.
+use Rattle.std.specs.Prelude.{Some}
 use mathlib.Core.Path.{◌≡◌, refl, sym, ap, ◌∙◌}
 use mathlib.Core.Bool.{Bool, true, false}
 use mathlib.Core.List.{List, [], ◌∷◌}
@@ -12,7 +13,6 @@ use lib.Dec.{eqb, ltb}
 use lib.ListN.{length}
 use Rattle.prelude.specs.Choice.{◌unless◌then◌}
 use Rattle.digits.specs.Digits.{decimal}
-use Rattle.numerals.specs.declared.Number.TheVariants.{Is}
 use Rattle.numerals.specs.Decimals.{capped, most_number, number_of}
 use Rattle.numerals.proofs.DecimalLaws.{capped_by, capped_low, capped_twice, number_is}
 use Rattle.answers.specs.declared.Answer.{Answer}
@@ -170,7 +170,7 @@ feed_capped n slot long chunk =
 
 -- ---- the words of a line
 
-digits_is : (w : Word) → Digits w → number_of w ≡ Is (capped most_number (decimal w))
+digits_is : (w : Word) → Digits w → number_of w ≡ Some (capped most_number (decimal w))
 digits_is w d = sym (number_is w d.some d.each_one)
 
 in_four_lem : (n : ℕ) → in_four (capped most_number n) ≡ in_four n

@@ -4,12 +4,10 @@
 --   closing .. lining   a call with the numbers that its words say
 --   asks                what a verb asks for with its words
 -- Assumes nothing.
-use Rattle.std.specs.Prelude.{Bool, List, [], ◌∷◌, ℕ, leb}
+use Rattle.std.specs.Prelude.{Bool, List, [], ◌∷◌, ℕ, leb, Option, Some, None}
 use Rattle.prelude.specs.Choice.{◌unless◌then◌}
 use Rattle.script.specs.declared.Verb.{Verb}
 use Rattle.script.specs.declared.Verb.TheVariants as verb
-use Rattle.numerals.specs.declared.Number.{Number}
-use Rattle.numerals.specs.declared.Number.TheVariants.{Is, Not}
 use Rattle.numerals.specs.Decimals.{capped, number_of}
 use Rattle.numerals.specs.Hex.{is_bytes}
 use Rattle.asked_calls.specs.declared.Call.{Call}
@@ -34,50 +32,50 @@ in_four n = capped 4_294_967_295 n
 abbrev pub order_byte : ℕ → ℕ
 order_byte n = capped 255 n
 
-abbrev pub closing : Number → Asked
-closing (Is slot) = Play (call.Close (in_four slot))
-closing Not = NoCall
+abbrev pub closing : (Option ℕ) → Asked
+closing (Some slot) = Play (call.Close (in_four slot))
+closing None = NoCall
 
-abbrev pub opening : Number → Number → Asked
-opening (Is slot) (Is floor) = Play (call.Open (in_four slot) (in_four floor))
-opening (Is slot) Not = NoCall
-opening Not floor = NoCall
+abbrev pub opening : (Option ℕ) → (Option ℕ) → Asked
+opening (Some slot) (Some floor) = Play (call.Open (in_four slot) (in_four floor))
+opening (Some slot) None = NoCall
+opening None floor = NoCall
 
-abbrev pub reporting : Number → Number → Asked
-reporting (Is slot) (Is long) = Play (call.Report (in_four slot) long)
-reporting (Is slot) Not = NoCall
-reporting Not long = NoCall
+abbrev pub reporting : (Option ℕ) → (Option ℕ) → Asked
+reporting (Some slot) (Some long) = Play (call.Report (in_four slot) long)
+reporting (Some slot) None = NoCall
+reporting None long = NoCall
 
-abbrev pub delivering : Number → Bool → Asked
-delivering (Is slot) hex = NoCall unless hex then Play (call.Deliver (in_four slot))
-delivering Not hex = NoCall
+abbrev pub delivering : (Option ℕ) → Bool → Asked
+delivering (Some slot) hex = NoCall unless hex then Play (call.Deliver (in_four slot))
+delivering None hex = NoCall
 
-abbrev pub ending : Number → Asked
-ending (Is slot) = Play (call.End (in_four slot))
-ending Not = NoCall
+abbrev pub ending : (Option ℕ) → Asked
+ending (Some slot) = Play (call.End (in_four slot))
+ending None = NoCall
 
 -- #102: a carry that is lent has 65,539 bytes. The desk has one byte more for each slot, and lends all of them where a
 -- greater length is asked for: it is a wrong one, too, and refused with the same.
 abbrev pub most_lent : ℕ
 most_lent = 65_540
 
-abbrev pub feeding : Number → Number → Bool → Asked
-feeding (Is slot) (Is long) hex = NoCall unless hex then Play (call.Feed (in_four slot) (capped most_lent long))
-feeding (Is slot) Not hex = NoCall
-feeding Not long hex = NoCall
+abbrev pub feeding : (Option ℕ) → (Option ℕ) → Bool → Asked
+feeding (Some slot) (Some long) hex = NoCall unless hex then Play (call.Feed (in_four slot) (capped most_lent long))
+feeding (Some slot) None hex = NoCall
+feeding None long hex = NoCall
 
 -- the longest output that is lent; no output that is lent has the greatest number for a place in it
 abbrev pub longest : ℕ
 longest = 4096
 
-abbrev pub lining : Way → Number → Number → Number → Bool → Asked
-lining way (Is order) (Is at) (Is long) hex =
+abbrev pub lining : Way → (Option ℕ) → (Option ℕ) → (Option ℕ) → Bool → Asked
+lining way (Some order) (Some at) (Some long) hex =
     NoCall unless leb long longest then
     NoCall unless hex then
     Line way (order_byte order) at long
-lining way (Is order) (Is at) Not hex = NoCall
-lining way (Is order) Not long hex = NoCall
-lining way Not at long hex = NoCall
+lining way (Some order) (Some at) None hex = NoCall
+lining way (Some order) None long hex = NoCall
+lining way None at long hex = NoCall
 
 -- ---- how many words a verb takes: with any other number of words it makes no call
 

@@ -5,7 +5,7 @@ ghost use Rattle.asking.specs.Asks.{ending, feeding};
 
 use crate::Asked;
 use asked_calls::Call;
-use numerals::{Number, up_to};
+use numerals::up_to;
 
 // A slot or a floor, in four bytes.
 fn in_four(n: u64) -> u32
@@ -14,43 +14,43 @@ fn in_four(n: u64) -> u32
     up_to(n, 4294967295) as u32
 }
 
-pub(crate) fn close_asked(slot: Number) -> Asked
+pub(crate) fn close_asked(slot: Option<u64>) -> Asked
     ensures { result ≡ closing slot }
 {
-    let Number::Is(s) = slot else {
+    let Some(s) = slot else {
         return Asked::NoCall;
     };
     Asked::Play(Call::Close(in_four(s)))
 }
 
-pub(crate) fn open_asked(slot: Number, floor: Number) -> Asked
+pub(crate) fn open_asked(slot: Option<u64>, floor: Option<u64>) -> Asked
     ensures { result ≡ opening slot floor }
 {
-    let Number::Is(s) = slot else {
+    let Some(s) = slot else {
         return Asked::NoCall;
     };
-    let Number::Is(f) = floor else {
+    let Some(f) = floor else {
         return Asked::NoCall;
     };
     Asked::Play(Call::Open(in_four(s), in_four(f)))
 }
 
-pub(crate) fn report_asked(slot: Number, long: Number) -> Asked
+pub(crate) fn report_asked(slot: Option<u64>, long: Option<u64>) -> Asked
     ensures { result ≡ reporting slot long }
 {
-    let Number::Is(s) = slot else {
+    let Some(s) = slot else {
         return Asked::NoCall;
     };
-    let Number::Is(n) = long else {
+    let Some(n) = long else {
         return Asked::NoCall;
     };
     Asked::Play(Call::Report(in_four(s), n as usize))
 }
 
-pub(crate) fn deliver_asked(slot: Number, hex: bool) -> Asked
+pub(crate) fn deliver_asked(slot: Option<u64>, hex: bool) -> Asked
     ensures { result ≡ delivering slot hex }
 {
-    let Number::Is(s) = slot else {
+    let Some(s) = slot else {
         return Asked::NoCall;
     };
     if hex {
@@ -59,23 +59,23 @@ pub(crate) fn deliver_asked(slot: Number, hex: bool) -> Asked
     Asked::NoCall
 }
 
-pub(crate) fn end_asked(slot: Number) -> Asked
+pub(crate) fn end_asked(slot: Option<u64>) -> Asked
     ensures { result ≡ ending slot }
 {
-    let Number::Is(s) = slot else {
+    let Some(s) = slot else {
         return Asked::NoCall;
     };
     Asked::Play(Call::End(in_four(s)))
 }
 
 // No more is lent than the desk has for a slot: 65,540 bytes.
-pub(crate) fn feed_asked(slot: Number, long: Number, hex: bool) -> Asked
+pub(crate) fn feed_asked(slot: Option<u64>, long: Option<u64>, hex: bool) -> Asked
     ensures { result ≡ feeding slot long hex }
 {
-    let Number::Is(s) = slot else {
+    let Some(s) = slot else {
         return Asked::NoCall;
     };
-    let Number::Is(n) = long else {
+    let Some(n) = long else {
         return Asked::NoCall;
     };
     if hex {

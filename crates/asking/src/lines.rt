@@ -3,7 +3,7 @@ ghost use Rattle.std.specs.Prelude.{◌≡◌};
 ghost use Rattle.asking.specs.Asks.{order_byte, lining, lined};
 
 use crate::{Asked, Way};
-use numerals::{Number, is_bytes, number_of, up_to};
+use numerals::{is_bytes, number_of, up_to};
 
 // An order is a byte. For greater numbers 255 stands, which is no order.
 fn order_byte(n: u64) -> u8
@@ -12,16 +12,22 @@ fn order_byte(n: u64) -> u8
     up_to(n, 255) as u8
 }
 
-fn line_numbers(way: Way, order: Number, at: Number, long: Number, hex: bool) -> Asked
+fn line_numbers(
+    way: Way,
+    order: Option<u64>,
+    at: Option<u64>,
+    long: Option<u64>,
+    hex: bool,
+) -> Asked
     ensures { result ≡ lining way order at long hex }
 {
-    let Number::Is(o) = order else {
+    let Some(o) = order else {
         return Asked::NoCall;
     };
-    let Number::Is(a) = at else {
+    let Some(a) = at else {
         return Asked::NoCall;
     };
-    let Number::Is(l) = long else {
+    let Some(l) = long else {
         return Asked::NoCall;
     };
     if 4096 < l {

@@ -1,5 +1,6 @@
 -- The statements of specs/Laws.antt, proved: what the reading of each kind can say.
 -- Assumes nothing.
+use Rattle.std.specs.Prelude.{Some}
 use mathlib.Core.Path.{◌≡◌, refl, sym, subst}
 use mathlib.Core.Bool.{Bool, true, false}
 use mathlib.Core.List.{List}
@@ -15,12 +16,11 @@ use Rattle.part_bodies.specs.Parts.{pir_of, prr_of, pir_body_fits, prr_body_fits
 use Rattle.part_bodies.proofs.Laws.{pir_said_right, prr_said_right}
 use Rattle.bodies.specs.declared.Record.{Record}
 use Rattle.bodies.specs.declared.Record.TheVariants as said
-use Rattle.bodies.specs.declared.Reading.TheVariants.{Fits}
 use Rattle.bodies.specs.Bodies.{far_of, wafer_of, reading, read_body}
 use Rattle.bodies.specs.Laws.{said_by, SaidBy, Right, SaidRight}
 
 -- a reading that fits passed its test and says what it was to say
-read_is : (test : Bool) (r r' : Record) → reading test r ≡ Fits r' → (test ≡ true) × (r ≡ r')
+read_is : (test : Bool) (r r' : Record) → reading test r ≡ Some r' → (test ≡ true) × (r ≡ r')
 read_is true r r' e = (refl, (cc))
 read_is false r r' e = let never : ◌≡◌ {A = ℕ} 0 1 = cc in absurd (omega arith)
 
@@ -43,7 +43,7 @@ said_by_lem order (kind.Remaining k) b r e = cc
 said_by_lem order kind.Custom b r e = cc
 said_by_lem order kind.Unknown b r e = cc
 
-by_kind : (order : Order) (k : Kind) (b : List ℕ) (r : Record) → Bytes b → read_body order k b ≡ Fits r
+by_kind : (order : Order) (k : Kind) (b : List ℕ) (r : Record) → Bytes b → read_body order k b ≡ Some r
     → Right (said_by order k b)
 unfolding read_body
 by_kind order kind.Far b r h e = tt

@@ -4,7 +4,7 @@
 --   WaferRight   a head and a site group of at most 255
 --   Right        what is known of a part or a wafer that it says
 -- Assumes nothing.
-use Rattle.std.specs.Prelude.{◌≡◌, true, false, List, ℕ, ◌<◌}
+use Rattle.std.specs.Prelude.{◌≡◌, true, false, List, ℕ, ◌<◌, Some}
 use Rattle.numbers.specs.declared.Order.{Order}
 use Rattle.numbers.specs.Laws.{Bytes}
 use Rattle.kinds.specs.declared.Kind.{Kind}
@@ -15,7 +15,6 @@ use Rattle.part_bodies.specs.Laws.{PirRight, PrrRight}
 use Rattle.bodies.specs.declared.Wafer.{Wafer}
 use Rattle.bodies.specs.declared.Record.{Record}
 use Rattle.bodies.specs.declared.Record.TheVariants as said
-use Rattle.bodies.specs.declared.Reading.TheVariants.{Fits}
 use Rattle.bodies.specs.Bodies.{far_of, wafer_of, read_body}
 
 abbrev pub said_by : Order → Kind → List ℕ → Record
@@ -38,7 +37,7 @@ said_by order kind.Unknown b = said.Unread
 
 -- a body that fits says what its kind says
 abbrev pub SaidBy : Type 0
-SaidBy = (order : Order) (k : Kind) (b : List ℕ) (r : Record) → read_body order k b ≡ Fits r → r ≡ said_by order k b
+SaidBy = (order : Order) (k : Kind) (b : List ℕ) (r : Record) → read_body order k b ≡ Some r → r ≡ said_by order k b
 
 abbrev pub WaferRight : Wafer → Type 0
 WaferRight w = (w.head < 256) × (w.group < 256)
@@ -57,4 +56,4 @@ Right (said.Bin b) = Unit
 Right said.Unread = Unit
 
 abbrev pub SaidRight : Type 0
-SaidRight = (order : Order) (k : Kind) (b : List ℕ) (r : Record) → Bytes b → read_body order k b ≡ Fits r → Right r
+SaidRight = (order : Order) (k : Kind) (b : List ℕ) (r : Record) → Bytes b → read_body order k b ≡ Some r → Right r

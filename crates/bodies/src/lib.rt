@@ -41,87 +41,76 @@ pub enum Record {
     Unread,
 }
 
-// A body that fits its kind, or one that does not: 7.
-#[derive(Clone, Copy)]
-pub enum Reading {
-    Fits(Record),
-    Misfit,
-}
-
 // A record that is read where its body fits.
-fn reading_of(fits: bool, said: Record) -> Reading
+fn reading_of(fits: bool, said: Record) -> Option<Record>
     ensures { result ≡ reading fits said }
 {
-    if fits {
-        Reading::Fits(said)
-    } else {
-        Reading::Misfit
-    }
+    if fits { Some(said) } else { None }
 }
 
-fn read_far(order: Order, body: &[u8]) -> Reading
+fn read_far(order: Order, body: &[u8]) -> Option<Record>
     ensures { result ≡ read_far order body.now }
 {
     if fits_table(order, body, &FAR, 2) {
-        Reading::Fits(Record::Far(Far {
+        Some(Record::Far(Far {
             cpu: body[0],
             version: body[1],
         }))
     } else {
-        Reading::Misfit
+        None
     }
 }
 
 // By itself, so that its long table is laid out for an MIR alone.
-fn read_mir(order: Order, body: &[u8]) -> Reading
+fn read_mir(order: Order, body: &[u8]) -> Option<Record>
     ensures { result ≡ read_mir order body.now }
 {
     reading_of(fits_table(order, body, &MIR, 13), Record::Mir)
 }
 
-fn read_mrr(order: Order, body: &[u8]) -> Reading
+fn read_mrr(order: Order, body: &[u8]) -> Option<Record>
     ensures { result ≡ read_mrr order body.now }
 {
     reading_of(fits_table(order, body, &MRR, 1), Record::Mrr)
 }
 
-fn read_pcr(order: Order, body: &[u8]) -> Reading
+fn read_pcr(order: Order, body: &[u8]) -> Option<Record>
     ensures { result ≡ read_pcr order body.now }
 {
     if count_bodies::fits_pcr(order, body) {
-        Reading::Fits(Record::Pcr(count_bodies::pcr_of(order, body)))
+        Some(Record::Pcr(count_bodies::pcr_of(order, body)))
     } else {
-        Reading::Misfit
+        None
     }
 }
 
-fn read_bin(soft: bool, order: Order, body: &[u8]) -> Reading
+fn read_bin(soft: bool, order: Order, body: &[u8]) -> Option<Record>
     ensures { result ≡ read_bin soft order body.now }
 {
     if count_bodies::fits_bin(order, body) {
-        Reading::Fits(Record::Bin(count_bodies::bin_count_of(soft, order, body)))
+        Some(Record::Bin(count_bodies::bin_count_of(soft, order, body)))
     } else {
-        Reading::Misfit
+        None
     }
 }
 
-fn read_pir(order: Order, body: &[u8]) -> Reading
+fn read_pir(order: Order, body: &[u8]) -> Option<Record>
     ensures { result ≡ read_pir order body.now }
 {
     if part_bodies::fits_pir(order, body) {
-        Reading::Fits(Record::Pir(part_bodies::pir_of(body)))
+        Some(Record::Pir(part_bodies::pir_of(body)))
     } else {
-        Reading::Misfit
+        None
     }
 }
 
-fn read_prr(order: Order, body: &[u8]) -> Reading
+fn read_prr(order: Order, body: &[u8]) -> Option<Record>
     ensures { result ≡ read_prr order body.now }
 {
     if part_bodies::fits_prr(order, body) {
-        Reading::Fits(Record::Prr(part_bodies::prr_of(order, body)))
+        Some(Record::Prr(part_bodies::prr_of(order, body)))
     } else {
-        Reading::Misfit
+        None
     }
 }
 
@@ -136,28 +125,28 @@ fn wafer_of(body: &[u8]) -> Wafer
     }
 }
 
-fn read_wir(order: Order, body: &[u8]) -> Reading
+fn read_wir(order: Order, body: &[u8]) -> Option<Record>
     ensures { result ≡ read_wir order body.now }
 {
     if fits_table(order, body, &WIR, 3) {
-        Reading::Fits(Record::Wir(wafer_of(body)))
+        Some(Record::Wir(wafer_of(body)))
     } else {
-        Reading::Misfit
+        None
     }
 }
 
-fn read_wrr(order: Order, body: &[u8]) -> Reading
+fn read_wrr(order: Order, body: &[u8]) -> Option<Record>
     ensures { result ≡ read_wrr order body.now }
 {
     if fits_table(order, body, &WRR, 4) {
-        Reading::Fits(Record::Wrr(wafer_of(body)))
+        Some(Record::Wrr(wafer_of(body)))
     } else {
-        Reading::Misfit
+        None
     }
 }
 
 // What a body of that kind says, or that it does not fit.
-pub fn read_body(order: Order, kind: Kind, body: &[u8]) -> Reading
+pub fn read_body(order: Order, kind: Kind, body: &[u8]) -> Option<Record>
     ensures { result ≡ read_body order kind body.now }
 {
     match kind {
@@ -171,11 +160,11 @@ pub fn read_body(order: Order, kind: Kind, body: &[u8]) -> Reading
         Kind::Prr => read_prr(order, body),
         Kind::Wir => read_wir(order, body),
         Kind::Wrr => read_wrr(order, body),
-        Kind::Atr => Reading::Fits(Record::Unread),
-        Kind::Rdr => Reading::Fits(Record::Unread),
-        Kind::Sdr => Reading::Fits(Record::Unread),
-        Kind::Remaining(_) => Reading::Fits(Record::Unread),
-        Kind::Custom => Reading::Fits(Record::Unread),
-        Kind::Unknown => Reading::Fits(Record::Unread),
+        Kind::Atr => Some(Record::Unread),
+        Kind::Rdr => Some(Record::Unread),
+        Kind::Sdr => Some(Record::Unread),
+        Kind::Remaining(_) => Some(Record::Unread),
+        Kind::Custom => Some(Record::Unread),
+        Kind::Unknown => Some(Record::Unread),
     }
 }

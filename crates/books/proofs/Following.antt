@@ -1,6 +1,7 @@
 -- A book and a session: what a book says is what the session holds, record by record. So the book tells the number of
 -- every record, and what it asks for.
 -- Assumes nothing.
+use Rattle.std.specs.Prelude.{Option, Some, None}
 use mathlib.Core.Path.{◌≡◌, refl, ap, ap₂, sym, subst, subst₂, ◌∙◌}
 use mathlib.Core.Bool.{Bool, true, false, cond, not, ◌||◌, false≢true}
 use mathlib.Core.List.{List, [], ◌∷◌, ◌++◌, map}
@@ -24,14 +25,11 @@ use Rattle.part_bodies.specs.Laws.{PrrRight}
 use Rattle.bodies.specs.declared.Wafer.{Wafer}
 use Rattle.bodies.specs.declared.Record.{Record}
 use Rattle.bodies.specs.declared.Record.TheVariants as said
-use Rattle.bodies.specs.declared.Reading.{Reading}
-use Rattle.bodies.specs.declared.Reading.TheVariants.{Fits, Misfit}
 use Rattle.bodies.specs.Bodies.{read_body, said_of}
 use Rattle.bodies.specs.Laws.{Right}
 use Rattle.bodies.proofs.Said.{said_right}
 use Rattle.order.specs.declared.Place.{Place}
 use Rattle.order.specs.declared.Place.TheVariants.{Start, Header, Lot, Setup, Body, Ended}
-use Rattle.order.specs.declared.Step.TheVariants.{To}
 use Rattle.order.specs.Order.{goes, place_after}
 use Rattle.rising.specs.Rising.{rank, held}
 use Rattle.session.specs.declared.Session.{Session}
@@ -123,10 +121,10 @@ module _ (x y : Seen) (alike : Alike x y) where
       rw (by (read_body order (kind_in rec) (body rec))
       (λ r is. said_right order (kind_in rec) (body rec) r (bytes_drop header rec bytes) is))
     where
-      by : (reading : Reading) → ((r : Record) → reading ≡ Fits r → Right r)
+      by : (reading : Option Record) → ((r : Record) → reading ≡ Some r → Right r)
           → number_by (own_checks x (said_of reading)) ≡ number_by (own_checks y (said_of reading))
-      by (Fits r) right = own_alike r (right r refl)
-      by Misfit right = refl
+      by (Some r) right = own_alike r (right r refl)
+      by None right = refl
 
 -- what a session has of a stream is what its book has
 seen_alike : (b : Book) (s : Session) → Says b s → Alike (seen_of s.standing s.parts) (seen_in b)
@@ -229,7 +227,7 @@ abbrev onward : Book → Place → Record → Book
 onward b place r = entered b b.order place r
 
 noted_later : (b : Book) (rec : List ℕ) (k : Kind) (q : Place) (r : Record) → is_start b.place ≡ false
-    → kind_in rec ≡ k → goes b.place k ≡ To q → read_body b.order k (body rec) ≡ Fits r
+    → kind_in rec ≡ k → goes b.place k ≡ Some q → read_body b.order k (body rec) ≡ Some r
     → (noted rec b ≡ onward b q r) × (said_in b rec ≡ r)
 noted_later b rec k q r further of_kind to fits =
     let leads : place_after (goes b.place (kind_in rec)) ≡ q = rw (of_kind, to) in
@@ -455,8 +453,8 @@ module _ (b : Book) (s : Session) (p : Says b s) where
     booked_later : is_start b.place ≡ false → Booked b s rec (judge_later st s.parts rec)
     booked_later further =
         later_cases st s.parts (Booked b s rec) (λ a own. tt) rec (λ k q r named to fits.
-        let to_next : goes b.place k ≡ To q = ap (λ (x : Place). goes x k) p.place ∙ to in
-        let reads : read_body b.order k (body rec) ≡ Fits r =
+        let to_next : goes b.place k ≡ Some q = ap (λ (x : Place). goes x k) p.place ∙ to in
+        let reads : read_body b.order k (body rec) ≡ Some r =
         ap (λ (o : Order). read_body o k (body rec)) p.order ∙ fits in
         let is = noted_later b rec k q r further named to_next reads in
         subst₂ (λ (c : Book) (x : Record). BookedAs s c x (judge_said (at st q) s.parts r)) (sym is.0)

@@ -1,6 +1,7 @@
 -- What a book means, whatever was called and answered (specs/Meaning.antt), proved: one record more changes the book
 -- and what is said of the records alike.
 -- Assumes nothing.
+use Rattle.std.specs.Prelude.{Option, Some, None}
 use mathlib.Core.Path.{◌≡◌, refl, ap, sym, ◌∙◌}
 use mathlib.Core.Bool.{Bool, true, false, cond, not, ◌&&◌, ◌||◌}
 use mathlib.Core.List.{List, [], ◌∷◌, ◌++◌, map, reverse-cons}
@@ -11,8 +12,6 @@ use Rattle.frames.specs.Frames.{body}
 use Rattle.bodies.specs.Bodies.{read_body, said_of}
 use Rattle.order.specs.declared.Place.{Place}
 use Rattle.order.specs.declared.Place.TheVariants.{Start, Header, Lot, Setup, Body, Ended}
-use Rattle.order.specs.declared.Step.{Step}
-use Rattle.order.specs.declared.Step.TheVariants.{To, OutOfPlace}
 use Rattle.order.specs.Order.{goes, place_after}
 use Rattle.order.specs.Spelled.{led}
 use Rattle.order.proofs.Laws.{never_start}
@@ -35,7 +34,7 @@ use Rattle.books.proofs.Parts.{open_without}
 past_start : (p : Place) (k : Kind) → is_start (place_after (goes p k)) ≡ false
 past_start p k = go (goes p k) refl
   where
-    by : (q : Place) → goes p k ≡ To q → is_start q ≡ false
+    by : (q : Place) → goes p k ≡ Some q → is_start q ≡ false
     by Start to = absurd (never_start p Start k to refl)
     by Header to = refl
     by Lot to = refl
@@ -43,9 +42,9 @@ past_start p k = go (goes p k) refl
     by Body to = refl
     by Ended to = refl
 
-    go : (s : Step) → goes p k ≡ s → is_start (place_after s) ≡ false
-    go OutOfPlace to = refl
-    go (To q) to = by q to
+    go : (s : Option Place) → goes p k ≡ s → is_start (place_after s) ≡ false
+    go None to = refl
+    go (Some q) to = by q to
 
 led_next : (rec : List ℕ) (recs : List (List ℕ))
     → led Start (kinds_of (rec ∷ recs)) ≡ place_after (goes (led Start (kinds_of recs)) (kind_in rec))

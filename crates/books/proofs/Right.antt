@@ -1,6 +1,8 @@
 -- Over calls from a fresh house every accepted record is right in itself, and so a PCR was accepted exactly if a record
 -- is of that kind (specs/Meaning.antt, AcceptedRight and PcrStands), proved.
 -- Assumes nothing.
+use Rattle.std.specs.Prelude.{Option, Some, None}
+use Rattle.bodies.specs.declared.Record.{Record}
 use mathlib.Core.Path.{◌≡◌, refl, ap, ap₂, subst, ◌∙◌}
 use mathlib.Core.Bool.{Bool, true, false, cond, ◌||◌, false≢true}
 use mathlib.Core.List.{List, [], ◌∷◌, ◌++◌}
@@ -12,8 +14,6 @@ use Rattle.kinds.specs.declared.Kind.{Kind}
 use Rattle.kinds.specs.declared.Kind.TheVariants as kind
 use Rattle.kinds.specs.Kinds.{known}
 use Rattle.frames.specs.Frames.{body, is_record}
-use Rattle.bodies.specs.declared.Reading.{Reading}
-use Rattle.bodies.specs.declared.Reading.TheVariants.{Fits, Misfit}
 use Rattle.bodies.specs.Bodies.{read_body, fitting, said_of}
 use Rattle.bodies.specs.Laws.{said_by}
 use Rattle.bodies.proofs.Said.{said_by_lem}
@@ -106,9 +106,9 @@ pcr_read : (order : Order) (k : Kind) (b : List ℕ) → fitting (read_body orde
     → is_pcr (said_of (read_body order k b)) ≡ pcr_kind k
 pcr_read order k b = go (read_body order k b) refl
   where
-    go : (x : Reading) → read_body order k b ≡ x → fitting x ≡ true → is_pcr (said_of x) ≡ pcr_kind k
-    go (Fits r) is fits = ap is_pcr (said_by_lem order k b r is) ∙ pcr_said order k b
-    go Misfit is fits = absurd (false≢true fits)
+    go : (x : Option Record) → read_body order k b ≡ x → fitting x ≡ true → is_pcr (said_of x) ≡ pcr_kind k
+    go (Some r) is fits = ap is_pcr (said_by_lem order k b r is) ∙ pcr_said order k b
+    go None is fits = absurd (false≢true fits)
 
 pcr_among : (recs : List (List ℕ)) → EachRight recs → any_pcr (readings recs) ≡ some_kind pcr_kind recs
 pcr_among [] right = refl

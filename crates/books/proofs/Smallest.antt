@@ -1,6 +1,7 @@
 -- What an answer carries beside its number (specs/Told.antt, ValuesTold and SmallestTold), proved: a session's parts rise,
 -- and the first of them is the smallest that its book has open.
 -- Assumes nothing.
+use Rattle.std.specs.Prelude.{Option, Some, None}
 use mathlib.Core.Path.{◌≡◌, refl, ap, ap₂, sym, subst, ◌∙◌}
 use mathlib.Core.Bool.{Bool, true, false, cond}
 use mathlib.Core.List.{List, [], ◌∷◌, ◌++◌}
@@ -12,8 +13,6 @@ use lib.ListN.{length}
 use Rattle.prelude.specs.Checks.{◌else◌, number_by}
 use Rattle.prelude.specs.Each.{each}
 use Rattle.answers.specs.declared.Answer.{Answer}
-use Rattle.answers.specs.declared.Values.{Values}
-use Rattle.answers.specs.declared.Values.TheVariants as values
 use Rattle.answers.specs.Numbers.{values_of}
 use Rattle.numbers.specs.Laws.{Bytes}
 use Rattle.frames.specs.Frames.{body}
@@ -49,7 +48,7 @@ use Rattle.books.proofs.Spelling.{spares, never_given, own_spare}
 -- ---- the first of a session's parts
 
 -- what 12 carries, where a session has parts open
-abbrev carried_for : Session → Values
+abbrev carried_for : Session → Option (ℕ × ℕ)
 carried_for s = values_of (still_open (parts_of s))
 
 module _ (b : Book) (s : Session) (p : Says b s) (long : length s.parts ≡ cell_count) (e : sound s ≡ true) where
@@ -76,8 +75,7 @@ module _ (b : Book) (s : Session) (p : Says b s) (long : length s.parts ≡ cell
       let above : number least ≤ part_of (part_head first) (part_site first) =
       least_first q qs (part_head first) (part_site first) low opens in
       let site_small : part_site first < 256 = omega arith in
-      ap₂ values.Part (omega (arith, below, above, gives, small, site_small))
-      (omega (arith, below, above, gives, small, site_small))
+      ap₂ Some ((omega (arith, below, above, gives, small, site_small)), (omega (arith, below, above, gives, small, site_small)))
 
 -- ---- 12 is given where a part is open
 
@@ -135,19 +133,19 @@ module _ (calls : List Call) (slot : ℕ) (rec : List ℕ) (sent : AllSent calls
             (open_session h slot (reached_sound calls sent) shape.slots inside (sym agrees.opened ∙ opened)) q qs is
 
   deliver_values : values_told calls (Deliver slot rec)
-      ≡ cond (eqb (number_told calls (Deliver slot rec)) 12) (smallest_of b.parts) values.Nothing
+      ≡ cond (eqb (number_told calls (Deliver slot rec)) 12) (smallest_of b.parts) None
   deliver_values =
       deliver_carries h slot rec (reached_sound calls sent)
       ∙ go (eqb (number_told calls (Deliver slot rec)) 12) refl
     where
       go : (t : Bool) → eqb (number_told calls (Deliver slot rec)) 12 ≡ t
-          → cond t (carried_for s) values.Nothing ≡ cond t (smallest_of b.parts) values.Nothing
+          → cond t (carried_for s) None ≡ cond t (smallest_of b.parts) None
       go true is = named (eqb-true (number_told calls (Deliver slot rec)) 12 is)
       go false is = refl
 
 plain_told : (calls : List Call) → AllSent calls → (c : Call)
-    → Refusals (λ (a : Answer). values_of a ≡ values.Nothing) (reached fresh calls) c
-    → values_told calls c ≡ values.Nothing
+    → Refusals (λ (a : Answer). values_of a ≡ None) (reached fresh calls) c
+    → values_told calls c ≡ None
 plain_told calls sent = plain_answer (reached fresh calls) (reached_sound calls sent)
 
 pub values_told_lem : ValuesTold
@@ -159,7 +157,7 @@ values_told_lem calls Figured sent own = plain_told calls sent Figured tt
 
 -- ---- which part that is
 
-smallest_of_lem : (ps : List Part) → Low ps → (smallest_of ps ≡ values.Nothing → ⊥) → Smallest ps (smallest_of ps)
+smallest_of_lem : (ps : List Part) → Low ps → (smallest_of ps ≡ None → ⊥) → Smallest ps (smallest_of ps)
 smallest_of_lem [] low some = some refl
 smallest_of_lem (q ∷ qs) low some =
     let least = least_of q qs in (
@@ -176,8 +174,8 @@ smallest_told calls slot rec sent bytes twelve =
     let is = named calls slot rec sent bytes twelve in
     subst (Smallest ps)
     (sym (deliver_values calls slot rec sent bytes
-    ∙ ap (λ (n : ℕ). cond (eqb n 12) (smallest_of ps) values.Nothing) twelve))
+    ∙ ap (λ (n : ℕ). cond (eqb n 12) (smallest_of ps) None) twelve))
     (smallest_of_lem ps (book_agrees slot calls sent).says.parts.low (λ none. nothing (is ∙ none)))
   where
-    nothing : {head site : ℕ} → values.Part head site ≡ values.Nothing → ⊥
+    nothing : {head site : ℕ} → Some (head, site) ≡ None → ⊥
     nothing e = let never : ◌≡◌ {A = ℕ} 0 1 = cc in omega arith

@@ -13,9 +13,7 @@
 --   rows_in             how many rows its tally has
 --   free_by, promised_by free and promised, by the books of all slots
 -- Assumes nothing.
-use Rattle.std.specs.Prelude.{ℕ, zero, suc, ◌+◌, ◌-◌, Bool, true, false, cond, ◌&&◌, ◌||◌, List, [], ◌∷◌, ◌++◌, eqb, ltb, length}
-use Rattle.answers.specs.declared.Values.{Values}
-use Rattle.answers.specs.declared.Values.TheVariants as values
+use Rattle.std.specs.Prelude.{ℕ, zero, suc, ◌+◌, ◌-◌, Bool, true, false, cond, ◌&&◌, ◌||◌, List, [], ◌∷◌, ◌++◌, eqb, ltb, length, Option, Some, None}
 use Rattle.numbers.specs.declared.Order.{Order}
 use Rattle.numbers.specs.declared.Order.TheVariants.{HighFirst}
 use Rattle.kinds.specs.declared.Kind.{Kind}
@@ -70,9 +68,9 @@ unfoldable pub least_of : Part → List Part → Part
 least_of p [] = p
 least_of p (q ∷ qs) = let least = least_of q qs in cond (precedes p least) p least
 
-abbrev pub smallest_of : List Part → Values
-smallest_of [] = values.Nothing
-smallest_of (p ∷ ps) = let least = least_of p ps in values.Part least.head least.site
+abbrev pub smallest_of : List Part → Option (ℕ × ℕ)
+smallest_of [] = None
+smallest_of (p ∷ ps) = let least = least_of p ps in Some (least.head, least.site)
 
 -- ---- the book
 

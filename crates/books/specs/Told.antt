@@ -10,12 +10,9 @@
 --   needs          the rows that a session needs at a call
 --   assured        the replies to a session while it is open and needs no more rows than its floor
 -- Assumes nothing.
-use Rattle.std.specs.Prelude.{◌≡◌, Bool, true, false, cond, not, ◌&&◌, ◌||◌, List, [], ◌∷◌, ◌++◌, map, ℕ, ◌+◌, ◌-◌, ◌≤◌, ◌<◌, eqb, leb, ltb, length}
+use Rattle.std.specs.Prelude.{◌≡◌, Bool, true, false, cond, not, ◌&&◌, ◌||◌, List, [], ◌∷◌, ◌++◌, map, ℕ, ◌+◌, ◌-◌, ◌≤◌, ◌<◌, eqb, leb, ltb, length, Option, Some, None}
 use Rattle.prelude.specs.Checks.{Check, ◌else◌, number_by}
 use Rattle.answers.specs.declared.Answer.TheVariants.{Done, NoRoom}
-use Rattle.answers.specs.declared.Values.{Values}
-use Rattle.answers.specs.declared.Values.TheVariants as values
-use Rattle.answers.specs.declared.Values.TheVariants.{Nothing}
 use Rattle.answers.specs.Numbers.{number_of, values_of}
 use Rattle.numbers.specs.Laws.{Bytes}
 use Rattle.session.specs.Session.{is_start}
@@ -33,7 +30,7 @@ use Rattle.books.specs.Book.{results_in, heard, book_of, rows_in, over, free_by,
 abbrev pub number_told : List Call → Call → ℕ
 number_told calls c = number_of (answer_of (reply (reached fresh calls) c))
 
-abbrev pub values_told : List Call → Call → Values
+abbrev pub values_told : List Call → Call → Option (ℕ × ℕ)
 values_told calls c = values_of (answer_of (reply (reached fresh calls) c))
 
 -- ---- open
@@ -94,21 +91,21 @@ DeliverTold = (calls : List Call) (slot : ℕ) (rec : List ℕ) → AllSent call
 -- ---- #101: what an answer carries beside its number
 
 -- 12 carries the smallest head and site of the slot's open parts, and no other answer carries anything
-abbrev pub carried_by : List Said → ℕ → Call → Values
-carried_by es n (Deliver slot rec) = cond (eqb n 12) (smallest_of (book_of slot es).parts) Nothing
-carried_by es n (Open slot floor) = Nothing
-carried_by es n (Report slot long) = Nothing
-carried_by es n (Close slot) = Nothing
-carried_by es n Figured = Nothing
+abbrev pub carried_by : List Said → ℕ → Call → Option (ℕ × ℕ)
+carried_by es n (Deliver slot rec) = cond (eqb n 12) (smallest_of (book_of slot es).parts) None
+carried_by es n (Open slot floor) = None
+carried_by es n (Report slot long) = None
+carried_by es n (Close slot) = None
+carried_by es n Figured = None
 
 abbrev pub ValuesTold : Type 0
 ValuesTold = (calls : List Call) (c : Call) → AllSent calls → Sent c
     → values_told calls c ≡ carried_by (history fresh calls) (number_told calls c) c
 
 -- what 12 names is a part that is open, and no open one precedes it
-abbrev pub Smallest : List Part → Values → Type 0
-Smallest parts values.Nothing = ⊥
-Smallest parts (values.Part head site) =
+abbrev pub Smallest : List Part → (Option (ℕ × ℕ)) → Type 0
+Smallest parts None = ⊥
+Smallest parts (Some (head, site)) =
     (is_open parts head site ≡ true)
     × ((head' site' : ℕ) → is_open parts head' site' ≡ true → precedes (part head' site') (part head site) ≡ false)
 

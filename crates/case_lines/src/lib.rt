@@ -10,7 +10,7 @@ mod saying;
 ghost use Rattle.std.specs.Prelude.{◌≡◌, false, ◌+◌, ◌≤◌, length, IfOk, OnErr};
 
 use input::{Found, Input, next_line, until};
-use numerals::{Number, is_hex, number_of, unhex};
+use numerals::{is_hex, number_of, unhex};
 use output::put_part;
 pub use saying::{MISSING, say_values};
 use script::word_end;
@@ -74,8 +74,8 @@ fn times_of(word: &[u8], star: usize) -> u64
         return 1;
     }
     match number_of(&word[star + 1..]) {
-        Number::Is(n) => n,
-        Number::Not => 0,
+        Some(n) => n,
+        None => 0,
     }
 }
 

@@ -18,7 +18,7 @@ mod trying;
 ghost use Rattle.std.specs.Prelude.{◌≤◌, length};
 
 use input::{Found, next_line};
-use numerals::{Number, number_of, up_to};
+use numerals::{number_of, up_to};
 use script::word_end;
 use std::io;
 use std::io::Read;
@@ -28,8 +28,8 @@ use transcript::say;
 fn say_written(rt: &impl Print, word: &[u8]) -> io::Result<()> {
     say(rt, b" ")?;
     match number_of(word) {
-        Number::Is(n) => reading_back::say_date(rt, up_to(n, 4294967295) as u32),
-        Number::Not => say(rt, b"?"),
+        Some(n) => reading_back::say_date(rt, up_to(n, 4294967295) as u32),
+        None => say(rt, b"?"),
     }
 }
 

@@ -1,19 +1,19 @@
 // The date of a time, and the time of a date.
-use dates::{Dated, read_date, write_date};
+use dates::{read_date, write_date};
 use std::io;
 use transcript::{say, say_number};
 
 pub(crate) fn say_read(rt: &impl Print, text: &[u8]) -> io::Result<()> {
     match read_date(text) {
-        Dated::Time(t) => say_number(rt, t as u64),
-        Dated::NotADate => say(rt, b"no date"),
+        Some(t) => say_number(rt, t as u64),
+        None => say(rt, b"no date"),
     }
 }
 
 fn is_read_as(text: &[u8], t: u32) -> bool {
     match read_date(text) {
-        Dated::Time(read) => read == t,
-        Dated::NotADate => false,
+        Some(read) => read == t,
+        None => false,
     }
 }
 

@@ -1,14 +1,14 @@
 // A text cut short at every length, and altered at every place: which of what comes of it are dates.
 ghost use Rattle.std.specs.Prelude.{◌≤◌, ◌<◌, length};
 
-use dates::{Dated, read_date};
+use dates::read_date;
 use std::io;
 use transcript::{say, say_number};
 
 fn is_date(text: &[u8]) -> bool {
     match read_date(text) {
-        Dated::Time(_) => true,
-        Dated::NotADate => false,
+        Some(_) => true,
+        None => false,
     }
 }
 

@@ -1,17 +1,17 @@
 // What is read of a body, field by field.
-use bodies::{Reading, Record, read_body};
+use bodies::{Record, read_body};
 use case_lines::{MISSING, say_values};
 use count_bodies::{Bin, Pcr};
 use kinds::Kind;
 use numbers::Order;
 use std::io;
 use transcript::say;
-use values::{Naming, Optional};
+use values::Name;
 
-fn value(field: Optional) -> u64 {
+fn value(field: Option<u32>) -> u64 {
     match field {
-        Optional::Value(n) => n as u64,
-        Optional::Missing => MISSING,
+        Some(n) => n as u64,
+        None => MISSING,
     }
 }
 
@@ -38,10 +38,10 @@ fn say_pcr(rt: &impl Print, p: Pcr) -> io::Result<()> {
 }
 
 // A name's length and place.
-fn naming(name: Naming) -> [u64; 2] {
+fn naming(name: Option<Name>) -> [u64; 2] {
     match name {
-        Naming::Value(n) => [n.len as u64, n.at as u64],
-        Naming::Missing => [MISSING, MISSING],
+        Some(n) => [n.len as u64, n.at as u64],
+        None => [MISSING, MISSING],
     }
 }
 
@@ -117,7 +117,7 @@ fn say_record(rt: &impl Print, record: Record) -> io::Result<()> {
 
 pub(crate) fn say_body(rt: &impl Print, order: Order, kind: Kind, body: &[u8]) -> io::Result<()> {
     match read_body(order, kind, body) {
-        Reading::Fits(record) => say_record(rt, record),
-        Reading::Misfit => say(rt, b" 7\n"),
+        Some(record) => say_record(rt, record),
+        None => say(rt, b" 7\n"),
     }
 }

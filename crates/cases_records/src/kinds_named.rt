@@ -6,7 +6,7 @@ use crate::sessions::say_number_cell;
 use case_lines::say_values;
 use fixtures::place_at;
 use kinds::{Kind, kind_of};
-use order::{Step, next_place};
+use order::{Place, next_place};
 use std::io;
 use transcript::{say, say_cell, say_kind, say_kind_wide};
 
@@ -57,10 +57,10 @@ pub(crate) fn say_type(rt: &impl Print, typ: u8) -> io::Result<()> {
     say(rt, b"\n")
 }
 
-fn say_step(rt: &impl Print, step: Step) -> io::Result<()> {
+fn say_step(rt: &impl Print, step: Option<Place>) -> io::Result<()> {
     match step {
-        Step::To(place) => say_cell(rt, place),
-        Step::OutOfPlace => say_number_cell(rt, 8),
+        Some(place) => say_cell(rt, place),
+        None => say_number_cell(rt, 8),
     }
 }
 

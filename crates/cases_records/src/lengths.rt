@@ -2,7 +2,7 @@
 // end.
 ghost use Rattle.std.specs.Prelude.{◌+◌, ◌≤◌, IfOk};
 
-use bodies::{Reading, read_body};
+use bodies::read_body;
 use case_lines::say_values;
 use kinds::Kind;
 use numbers::Order;
@@ -14,8 +14,8 @@ const PAST: usize = 8192;
 
 fn fits(order: Order, kind: Kind, body: &[u8]) -> bool {
     match read_body(order, kind, body) {
-        Reading::Fits(_) => true,
-        Reading::Misfit => false,
+        Some(_) => true,
+        None => false,
     }
 }
 

@@ -7,19 +7,17 @@ ghost use Rattle.count_bodies.specs.Counts.{pcr_of, bin_count_of, bin_values_fit
 
 use fields::{BIN, PCR, fits_table};
 use numbers::Order;
-use values::{
-    MOST_BIN, Naming, Optional, count_at, name_at, pass_fail_at, pass_fail_fits, u2_at, u4_at,
-};
+use values::{MOST_BIN, Name, count_at, name_at, pass_fail_at, pass_fail_fits, u2_at, u4_at};
 
 #[derive(Clone, Copy)]
 pub struct Pcr {
     pub head: u8,
     pub site: u8,
     pub parts: u32,
-    pub retest: Optional,
-    pub abort: Optional,
-    pub good: Optional,
-    pub functional: Optional,
+    pub retest: Option<u32>,
+    pub abort: Option<u32>,
+    pub good: Option<u32>,
+    pub functional: Option<u32>,
 }
 
 // HBR, or SBR where `soft`. The value of P/F, `pf`, is the byte P or F.
@@ -30,8 +28,8 @@ pub struct Bin {
     pub site: u8,
     pub bin: u16,
     pub count: u32,
-    pub pf: Optional,
-    pub name: Naming,
+    pub pf: Option<u32>,
+    pub name: Option<Name>,
 }
 
 // Whether a PCR's body fits.

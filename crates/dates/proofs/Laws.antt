@@ -1,5 +1,6 @@
 -- The statements of specs/Laws.antt, proved; and what the functions' proofs cite besides.
 -- Assumes nothing.
+use Rattle.std.specs.Prelude.{Option, Some, None}
 use mathlib.Core.Path.{◌≡◌, refl, sym, ap, ◌∙◌}
 use mathlib.Core.Bool.{Bool, true, false, cond, ◌&&◌}
 use mathlib.Core.List.{List, [], ◌∷◌, ◌++◌}
@@ -22,8 +23,6 @@ use Rattle.digits.proofs.Laws.{digits_one, digits_two, is_digit_lem}
 use Rattle.months.specs.Months.{length_of, month_of, last_month}
 use Rattle.months.proofs.Laws.{first_next, length_between, month_holds, month_last}
 use Rattle.dates.specs.declared.Moment.{Moment}
-use Rattle.dates.specs.declared.Dated.{Dated}
-use Rattle.dates.specs.declared.Dated.TheVariants.{Time, NotADate}
 use Rattle.dates.specs.Dates.{last_time, moment_of, Fits, month_in, time_of, month_names, letter}
 use Rattle.dates.specs.Dates.{past_hour, past_day, text_of, date_text, date_byte}
 use Rattle.dates.specs.Reading.{is_named, named_in, month_named, fields_in, read_as, date_of}
@@ -164,23 +163,23 @@ fields_dated t h = fields_text (moment_of t) (moment_fits t h)
 -- ---- a date is read: one law an answer, in the order of the checks
 
 module _ (m : Moment) (s : List ℕ) where
-  pub read_late : last_month < month_in m → NotADate ≡ read_as m s
+  pub read_late : last_month < month_in m → None ≡ read_as m s
   unfolding read_as
   read_late h = rw (lt-leb (month_in m) last_month h)
 
   module _ (month : month_in m ≤ last_month) where
-    pub read_no_day : length_of (month_in m) < m.day → NotADate ≡ read_as m s
+    pub read_no_day : length_of (month_in m) < m.day → None ≡ read_as m s
     unfolding read_as
     read_no_day h = rw (le-leb (month_in m) last_month month, lt-leb m.day (length_of (month_in m)) h)
 
     module _ (day : m.day ≤ length_of (month_in m)) (t : ℕ) (is : time_of m ≡ t) where
-      pub read_zero : t < 1 → NotADate ≡ read_as m s
+      pub read_zero : t < 1 → None ≡ read_as m s
       unfolding read_as
       read_zero h =
           rw (le-leb (month_in m) last_month month, le-leb m.day (length_of (month_in m)) day, is, lt-leb 1 t h)
 
       module _ (low : 1 ≤ t) where
-        pub read_past : last_time < t → NotADate ≡ read_as m s
+        pub read_past : last_time < t → None ≡ read_as m s
         unfolding read_as
         read_past h =
             rw (
@@ -192,7 +191,7 @@ module _ (m : Moment) (s : List ℕ) where
             )
 
         module _ (high : t ≤ last_time) where
-          read_same : read_as m s ≡ (NotADate unless same s (date_text t) then Time t)
+          read_same : read_as m s ≡ (None unless same s (date_text t) then Some t)
           unfolding read_as
           read_same =
               rw (
@@ -203,10 +202,10 @@ module _ (m : Moment) (s : List ℕ) where
                 le-leb t last_time high,
               )
 
-          pub read_other : same s (date_text t) ≡ false → NotADate ≡ read_as m s
+          pub read_other : same s (date_text t) ≡ false → None ≡ read_as m s
           read_other h = rw (read_same, h)
 
-          pub read_time : same s (date_text t) ≡ true → Time t ≡ read_as m s
+          pub read_time : same s (date_text t) ≡ true → Some t ≡ read_as m s
           read_time h = rw (read_same, h)
 
 pub read_as_lem : (m : Moment) (s : List ℕ) → m ≡ fields_in s → read_as m s ≡ date_of s
@@ -227,7 +226,7 @@ date_read t low high =
 
 -- ---- and nothing else
 
-apart : {A : Type 0} (t : ℕ) → NotADate ≡ Time t → A
+apart : {A : Type 0} (t : ℕ) → None ≡ Some t → A
 apart t e = let never : ◌≡◌ {A = ℕ} 0 1 = cc in absurd (omega arith)
 
 pub date_only : DateOnly
@@ -239,8 +238,8 @@ date_only s t = go (leb (month_in m) last_month) (leb m.day (length_of (month_in
     m = fields_in s
 
     go : (a b c d e : Bool) → leb 1 (time_of m) ≡ c → leb (time_of m) last_time ≡ d → same s (date_text (time_of m)) ≡ e
-        → (NotADate unless a then NotADate unless b then NotADate unless c then NotADate unless d then
-        NotADate unless e then Time (time_of m)) ≡ Time t
+        → (None unless a then None unless b then None unless c then None unless d then
+        None unless e then Some (time_of m)) ≡ Some t
         → (1 ≤ t) × (t ≤ last_time) × (s ≡ date_text t)
     go false b c d e low high text is = apart t is
     go true false c d e low high text is = apart t is
@@ -258,17 +257,17 @@ date_only s t = go (leb (month_in m) last_month) (leb m.day (length_of (month_in
 pub date_none : DateNone
 date_none s h = go (date_of s) refl
   where
-    go : (d : Dated) → date_of s ≡ d → date_of s ≡ NotADate
-    go (Time t) e =
+    go : (d : Option ℕ) → date_of s ≡ d → date_of s ≡ None
+    go (Some t) e =
         let only = date_only s t e in
         absurd (h t only.0 only.1 only.2)
-    go NotADate e = e
+    go None e = e
 
 pub date_once : DateOnce
 date_once t u low high low' high' e =
     let a = date_read t low high in
     let b = date_read u low' high' in
-    let c : Time t ≡ Time u = sym a ∙ rw e b in
+    let c : Some t ≡ Some u = sym a ∙ rw e b in
     cc
 
 -- ---- how long a date is

@@ -4,14 +4,12 @@
 --   Small      what that can be at most
 --   date_of     the time that a text is the date of, if it is a date
 -- Assumes nothing.
-use Rattle.std.specs.Prelude.{Bool, cond, ◌&&◌, List, [], ◌∷◌, ℕ, suc, ◌+◌, ◌-◌, ◌*◌, ◌≤◌, eqb, leb, get_or}
+use Rattle.std.specs.Prelude.{Bool, cond, ◌&&◌, List, [], ◌∷◌, ℕ, suc, ◌+◌, ◌-◌, ◌*◌, ◌≤◌, eqb, leb, get_or, Option, Some, None}
 use Prim.Native.Char.{code}
 use Rattle.prelude.specs.Choice.{◌unless◌then◌}
 use Rattle.matching.specs.Matching.{same}
 use Rattle.months.specs.Months.{length_of, last_month}
 use Rattle.dates.specs.declared.Moment.{Moment}
-use Rattle.dates.specs.declared.Dated.{Dated}
-use Rattle.dates.specs.declared.Dated.TheVariants.{Time, NotADate}
 use Rattle.dates.specs.Dates.{last_time, month_in, time_of, month_names, date_text}
 
 -- ---- the fields: no test yet, so any byte counts as some digit
@@ -73,14 +71,14 @@ pub record Small (m : Moment) : Type 0 where
 -- #103, exactly as a date is written: the fields say a time, and the text is that time's to the last byte. All that a
 -- date may not be (a leading zero, a small letter, a minute 60, a day 0, a byte too many) is no time's text. Time 0
 -- is missing, so its text is no date.
-unfoldable pub read_as : Moment → List ℕ → Dated
+unfoldable pub read_as : Moment → List ℕ → Option ℕ
 read_as m s =
-    NotADate unless leb (month_in m) last_month then
-    NotADate unless leb m.day (length_of (month_in m)) then
-    NotADate unless leb 1 (time_of m) then
-    NotADate unless leb (time_of m) last_time then
-    NotADate unless same s (date_text (time_of m)) then
-    Time (time_of m)
+    None unless leb (month_in m) last_month then
+    None unless leb m.day (length_of (month_in m)) then
+    None unless leb 1 (time_of m) then
+    None unless leb (time_of m) last_time then
+    None unless same s (date_text (time_of m)) then
+    Some (time_of m)
 
-unfoldable pub date_of : List ℕ → Dated
+unfoldable pub date_of : List ℕ → Option ℕ
 date_of s = read_as (fields_in s) s

@@ -1,8 +1,7 @@
 -- Dates by computation: #103's own and the last one, and texts that are none. Statements only; cases_dates has more.
 -- Assumes nothing.
-use Rattle.std.specs.Prelude.{◌≡◌, List, [], ◌∷◌, map, ℕ}
+use Rattle.std.specs.Prelude.{◌≡◌, List, [], ◌∷◌, map, ℕ, Some, None}
 use Prim.Native.Char.{code}
-use Rattle.dates.specs.declared.Dated.TheVariants.{Time, NotADate}
 use Rattle.dates.specs.Dates.{last_time, date_text}
 use Rattle.dates.specs.Reading.{date_of}
 
@@ -40,7 +39,7 @@ abbrev pub SamplesWritten : Type 0
 SamplesWritten = map date_text sample_times ≡ sample_texts
 
 abbrev pub SamplesRead : Type 0
-SamplesRead = map date_of sample_texts ≡ map Time sample_times
+SamplesRead = map date_of sample_texts ≡ map Some sample_times
 
 abbrev pub OthersRefused : Type 0
-OthersRefused = map date_of other_texts ≡ map (λ (s : List ℕ). NotADate) other_texts
+OthersRefused = map date_of other_texts ≡ map (λ (s : List ℕ). None) other_texts

@@ -24,13 +24,6 @@ pub struct Moment {
     pub second: u32,
 }
 
-// What a text is the date of.
-#[derive(Clone, Copy)]
-pub enum Dated {
-    Time(u32),
-    NotADate,
-}
-
 // The fields of a time's date.
 pub(crate) fn moment_of(t: u32) -> Moment
     ensures { (result ≡ moment_of t) × Fits result }

@@ -6,9 +6,9 @@ ghost use Rattle.months.specs.Months.{last_month};
 ghost use Rattle.dates.specs.Dates.{month_in, time_of, date_text};
 ghost use Rattle.dates.specs.Reading.{digit_at, two_at, number_at, fields_in, Small, date_of};
 
+use crate::Moment;
 use crate::names::month_named;
 use crate::writing::write_date;
-use crate::{Dated, Moment};
 use matching::same_bytes;
 
 // The byte at a place; 0 past the end.
@@ -119,27 +119,27 @@ fn is_date_of(s: &[u8], t: u32) -> bool
 }
 
 // Reads a date, of any bytes.
-pub fn read_date(s: &[u8]) -> Dated
+pub fn read_date(s: &[u8]) -> Option<u32>
     ensures { result ≡ date_of s.now }
 {
     let m = fields_in(s);
     let month = month_in(m);
     if 1633 < month {
-        return Dated::NotADate;
+        return None;
     }
     if months::month_length(month) < m.day {
-        return Dated::NotADate;
+        return None;
     }
     let t = time_in(m, month);
     if t < 1 {
-        return Dated::NotADate;
+        return None;
     }
     if 4294967295 < t {
-        return Dated::NotADate;
+        return None;
     }
     let time = t as u32;
     if is_date_of(s, time) {
-        return Dated::Time(time);
+        return Some(time);
     }
-    Dated::NotADate
+    None
 }

@@ -1,6 +1,7 @@
 -- The statements of specs/Laws.antt, proved; how digits go on with the quotient; and how a numeral is read, digit by
 -- digit.
 -- Assumes nothing.
+use Rattle.std.specs.Prelude.{Some, None}
 use mathlib.Core.Path.{◌≡◌, refl, ap}
 use mathlib.Core.Logic.{◌⊎◌, ⊎_elim, inl, inr}
 use mathlib.Core.Bool.{Bool, true, false}
@@ -16,7 +17,6 @@ use lib.Seq.{drop-cons}
 use Rattle.prelude.specs.Each.{each}
 use Rattle.prelude.proofs.Both.{both_left, both_right}
 use Rattle.prelude.proofs.Each.{each_append}
-use Rattle.digits.specs.declared.Numeral.TheVariants.{Value, NotANumber}
 use Rattle.digits.specs.Digits.{digit, digits_within, digits, two, is_digit, decimal_from, decimal, numeral}
 use Rattle.digits.specs.Laws.{TwoSteps, DigitsMost, DigitsLong, DigitsSome, NoLeadingZero, DigitsDigits}
 use Rattle.digits.specs.Laws.{DecimalDigits, NumeralDigits}
@@ -179,21 +179,21 @@ decimal_digits =
 -- ---- a numeral
 
 module _ (s : List ℕ) where
-  pub numeral_empty : length s < 1 → NotANumber ≡ numeral s
+  pub numeral_empty : length s < 1 → None ≡ numeral s
   unfolding numeral
   numeral_empty h = rw (lt-leb 1 (length s) h)
 
   module _ (some : 1 ≤ length s) where
-    pub numeral_long : 10 < length s → NotANumber ≡ numeral s
+    pub numeral_long : 10 < length s → None ≡ numeral s
     unfolding numeral
     numeral_long h = rw (le-leb 1 (length s) some, lt-leb (length s) 10 h)
 
     module _ (few : length s ≤ 10) where
-      pub numeral_no : each is_digit s ≡ false → NotANumber ≡ numeral s
+      pub numeral_no : each is_digit s ≡ false → None ≡ numeral s
       unfolding numeral
       numeral_no e = rw (le-leb 1 (length s) some, le-leb (length s) 10 few, e)
 
-      pub numeral_value : each is_digit s ≡ true → Value (decimal s) ≡ numeral s
+      pub numeral_value : each is_digit s ≡ true → Some (decimal s) ≡ numeral s
       unfolding numeral
       numeral_value e = rw (le-leb 1 (length s) some, le-leb (length s) 10 few, e)
 

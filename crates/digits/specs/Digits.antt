@@ -7,12 +7,10 @@
 --   decimal    what digits are worth
 --   numeral    what text says as a number
 -- Assumes nothing.
-use Rattle.std.specs.Prelude.{ℕ, zero, suc, ◌+◌, ◌-◌, ◌*◌, ◌/◌, ◌%◌, Bool, true, false, ◌&&◌, List, [], ◌∷◌, ◌++◌, leb, ltb, length}
+use Rattle.std.specs.Prelude.{ℕ, zero, suc, ◌+◌, ◌-◌, ◌*◌, ◌/◌, ◌%◌, Bool, true, false, ◌&&◌, List, [], ◌∷◌, ◌++◌, leb, ltb, length, Option, Some, None}
 use Prim.Native.Char.{code}
 use Rattle.prelude.specs.Choice.{◌unless◌then◌}
 use Rattle.prelude.specs.Each.{each}
-use Rattle.digits.specs.declared.Numeral.{Numeral}
-use Rattle.digits.specs.declared.Numeral.TheVariants.{Value, NotANumber}
 
 -- the digit of a number below ten
 abbrev pub digit : ℕ → ℕ
@@ -46,9 +44,9 @@ abbrev pub decimal : List ℕ → ℕ
 decimal s = decimal_from 0 s
 
 -- Read, numbers are one to ten digits, leading zeros allowed
-unfoldable pub numeral : List ℕ → Numeral
+unfoldable pub numeral : List ℕ → Option ℕ
 numeral s =
-    NotANumber unless leb 1 (length s) then
-    NotANumber unless leb (length s) 10 then
-    NotANumber unless each is_digit s then
-    Value (decimal s)
+    None unless leb 1 (length s) then
+    None unless leb (length s) 10 then
+    None unless each is_digit s then
+    Some (decimal s)

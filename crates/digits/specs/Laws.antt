@@ -1,9 +1,8 @@
 -- What is shown of decimal text: statements only. Each is proved in proofs/Laws.antt, under its name in small letters.
 -- Assumes nothing.
-use Rattle.std.specs.Prelude.{◌≡◌, true, ◌++◌, ℕ, ◌/◌, ◌%◌, ◌≤◌, ◌<◌, ◌^◌, length, get_or}
+use Rattle.std.specs.Prelude.{◌≡◌, true, ◌++◌, ℕ, ◌/◌, ◌%◌, ◌≤◌, ◌<◌, ◌^◌, length, get_or, Some}
 use Prim.Native.Char.{code}
 use Rattle.prelude.specs.Each.{each}
-use Rattle.digits.specs.declared.Numeral.TheVariants.{Value}
 use Rattle.digits.specs.Digits.{digits, two, is_digit, decimal, numeral}
 
 -- #104, two a step: two steps of the definition are one of the code's, for every number that has hundreds
@@ -36,4 +35,4 @@ DecimalDigits = (n : ℕ) → decimal (digits n) ≡ n
 
 -- a number, written and read back, is the number
 abbrev pub NumeralDigits : Type 0
-NumeralDigits = (n : ℕ) → n < 2 ^ 32 → numeral (digits n) ≡ Value n
+NumeralDigits = (n : ℕ) → n < 2 ^ 32 → numeral (digits n) ≡ Some n

@@ -90,13 +90,6 @@ pub fn width(n: u32) -> usize
     count
 }
 
-// What text says as a number. Ten digits may pass what a u32 holds: the range is the caller's to judge.
-#[derive(Clone, Copy)]
-pub enum Numeral {
-    Value(u64),
-    NotANumber,
-}
-
 fn is_digit(b: u8) -> bool
     ensures { result ≡ is_digit b }
 {
@@ -113,23 +106,23 @@ fn wide(b: u8) -> u64
 }
 
 // Reads a number of one to ten digits, leading zeros allowed.
-pub fn read_number(s: &[u8]) -> Numeral
+pub fn read_number(s: &[u8]) -> Option<u64>
     ensures { result ≡ numeral s.now }
 {
     if s.len() < 1 {
-        return Numeral::NotANumber;
+        return None;
     }
     if 10 < s.len() {
-        return Numeral::NotANumber;
+        return None;
     }
     let mut n: u64 = 0;
     let mut i: usize = 0;
     while i < s.len() {
         if !is_digit(s[i]) {
-            return Numeral::NotANumber;
+            return None;
         }
         n = n * 10 + (wide(s[i]) - 48);
         i += 1;
     }
-    Numeral::Value(n)
+    Some(n)
 }

@@ -12,7 +12,6 @@ use house::{Fed, House, Room, Slot};
 use pouring::{Pour, answer_of, pour_all};
 use session::Session;
 use soundness::{is_sound, soundness_lent, unfilled_of};
-use walking::Fate;
 
 fn fed(answer: Answer, taken: usize, house: House) -> Fed
     ensures { result ≡ record { answer = answer; taken = taken; house = house } }
@@ -73,7 +72,7 @@ fn feed_open(house: House, owed: u32, i: usize, s: Slot, carry: &mut [u8], chunk
         Pour {
             used,
             standing,
-            fate: Fate::Going,
+            fate: None,
             held: s.held,
             at: 0,
         },

@@ -1,5 +1,6 @@
 -- What an accepted first record is (specs/Laws.antt, FirstAccepted and FirstInPlace), proved.
 -- Assumes nothing.
+use Rattle.std.specs.Prelude.{Option, Some, None}
 use mathlib.Core.Path.{◌≡◌, refl, sym}
 use mathlib.Core.Bool.{Bool, true, false, cond, not, ◌&&◌}
 use mathlib.Core.List.{List, [], ◌∷◌}
@@ -12,8 +13,6 @@ use Rattle.prelude.specs.Each.{each}
 use Rattle.prelude.proofs.Both.{both_left, both_right}
 use Rattle.prelude.proofs.Checks.{choice_by}
 use Rattle.numbers.specs.declared.Order.{Order}
-use Rattle.numbers.specs.declared.Ordering.{Ordering}
-use Rattle.numbers.specs.declared.Ordering.TheVariants as ordering
 use Rattle.numbers.specs.Orders.{order_of}
 use Rattle.kinds.specs.declared.Pair.{Pair}
 use Rattle.kinds.specs.declared.Kind.{Kind}
@@ -65,11 +64,11 @@ abbrev Accepts : List ℕ → Verdict → Type 0
 Accepts rec v = verdict_number v ≡ 0 → FirstRight rec
 
 by_order : (st : Standing) (rec : List ℕ) → (eqb (rec_typ rec) 0 && eqb (rec_sub rec) 10) ≡ true
-    → eqb (length rec) 6 ≡ true → (o : Ordering) → order_of (byte_of far 0 (body rec)) ≡ o
+    → eqb (length rec) 6 ≡ true → (o : Option Order) → order_of (byte_of far 0 (body rec)) ≡ o
     → Accepts rec (judge_ordered st rec o)
 unfolding judge_in
-by_order st rec pair six ordering.Unknown told = λ e. absurd (omega arith)
-by_order st rec pair six (ordering.Known order) told =
+by_order st rec pair six None told = λ e. absurd (omega arith)
+by_order st rec pair six (Some order) told =
     choice_by (Accepts rec) _ (eqb (rec_len order rec) 2) _ (λ e. absurd (omega arith)) (λ two.
     choice_by (Accepts rec) _ (eqb (byte_of far 1 (body rec)) 4) _ (λ e. absurd (omega arith)) (λ version.
     λ e. first_right rec pair six (rw told two)))

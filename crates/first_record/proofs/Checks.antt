@@ -1,6 +1,7 @@
 -- The ways in which a first record is judged, as one law by which every other is shown; and its order of checks as a
 -- list (specs/Laws.antt), proved.
 -- Assumes nothing.
+use Rattle.std.specs.Prelude.{Option, Some, None}
 use mathlib.Core.Path.{◌≡◌, refl, ap}
 use mathlib.Core.Bool.{◌&&◌}
 use mathlib.Core.List.{List, [], ◌∷◌}
@@ -12,8 +13,6 @@ use Rattle.prelude.proofs.Checks.{choice_by, check_first}
 use Rattle.answers.specs.declared.Answer.{Answer}
 use Rattle.answers.specs.declared.Answer.TheVariants as answer
 use Rattle.numbers.specs.declared.Order.{Order}
-use Rattle.numbers.specs.declared.Ordering.{Ordering}
-use Rattle.numbers.specs.declared.Ordering.TheVariants as ordering
 use Rattle.numbers.specs.Orders.{order_of}
 use Rattle.frames.specs.Frames.{header, rec_len, rec_typ, rec_sub, body}
 use Rattle.fields.specs.Tables.{far}
@@ -37,9 +36,9 @@ module _ (parts : List ℕ) (P : Verdict → Type 0) (refused : (a : Answer) →
       choice_by P _ (eqb (length rec) 6) _ (refused answer.NotOneRecord (refl, refl)) (λ _.
       by_order (order_of (byte_of far 0 (body rec))) refl)))
     where
-      by_order : (o : Ordering) → order_of (byte_of far 0 (body rec)) ≡ o → P (judge_ordered st rec o)
-      by_order ordering.Unknown told = refused answer.UnknownOrder (refl, refl)
-      by_order (ordering.Known order) told =
+      by_order : (o : Option Order) → order_of (byte_of far 0 (body rec)) ≡ o → P (judge_ordered st rec o)
+      by_order None told = refused answer.UnknownOrder (refl, refl)
+      by_order (Some order) told =
           choice_by P _ (eqb (rec_len order rec) 2) _ (refused answer.NotOneRecord (refl, refl)) (λ _.
           choice_by P _ (eqb (byte_of far 1 (body rec)) 4) _ (refused answer.WrongVersion (refl, refl)) (λ _.
           taken order (ap order_told told)))
@@ -54,14 +53,14 @@ first_number st rec =
     check_first verdict_number _ (eqb (length rec) 6) _ 3 _ refl (λ c.
     by (order_of (byte_of far 0 (body rec))))))
   where
-    by : (o : Ordering)
+    by : (o : Option Order)
         → verdict_number (judge_ordered st rec o)
         ≡ number_by
         ((is_known o else 4)
         ∷ (eqb (rec_len (order_told o) rec) 2 else 3)
         ∷ (eqb (byte_of far 1 (body rec)) 4 else 5)
         ∷ [])
-    by ordering.Unknown = refl
-    by (ordering.Known order) =
+    by None = refl
+    by (Some order) =
         check_first verdict_number _ (eqb (rec_len order rec) 2) _ 3 _ refl (λ a.
         check_first verdict_number _ (eqb (byte_of far 1 (body rec)) 4) _ 5 0 refl (λ b. refl))

@@ -3,13 +3,11 @@
 --   judge_first   what it does to a session that stands at its start
 --   order_in      the byte order that it tells
 -- Assumes nothing.
-use Rattle.std.specs.Prelude.{ℕ, ◌&&◌, List, eqb, leb, length}
+use Rattle.std.specs.Prelude.{ℕ, ◌&&◌, List, eqb, leb, length, Option, Some, None}
 use Rattle.prelude.specs.Choice.{◌unless◌then◌}
 use Rattle.answers.specs.declared.Answer.TheVariants as answer
 use Rattle.numbers.specs.declared.Order.{Order}
 use Rattle.numbers.specs.declared.Order.TheVariants.{HighFirst}
-use Rattle.numbers.specs.declared.Ordering.{Ordering}
-use Rattle.numbers.specs.declared.Ordering.TheVariants as ordering
 use Rattle.numbers.specs.Orders.{order_of}
 use Rattle.frames.specs.Frames.{header, rec_len, rec_typ, rec_sub, body}
 use Rattle.fields.specs.Tables.{far}
@@ -38,9 +36,9 @@ judge_in st rec order =
     Refused answer.WrongVersion unless eqb (byte_of far 1 (body rec)) 4 then
     Taken (stands (in_order st order))
 
-abbrev pub judge_ordered : Standing → List ℕ → Ordering → Verdict
-judge_ordered st rec ordering.Unknown = Refused answer.UnknownOrder
-judge_ordered st rec (ordering.Known order) = judge_in st rec order
+abbrev pub judge_ordered : Standing → List ℕ → (Option Order) → Verdict
+judge_ordered st rec None = Refused answer.UnknownOrder
+judge_ordered st rec (Some order) = judge_in st rec order
 
 -- First record: length under 4 is 3; bytes 2 and 3 not 0 and 10 is 8; length not 6 is 3; then 4 ..
 unfoldable pub judge_first : Standing → List ℕ → Verdict
@@ -51,9 +49,9 @@ judge_first st rec =
     judge_ordered st rec (order_of (byte_of far 0 (body rec)))
 
 -- the byte order that a CPU_TYPE tells; asked only of one that tells any
-abbrev pub order_told : Ordering → Order
-order_told (ordering.Known order) = order
-order_told ordering.Unknown = HighFirst
+abbrev pub order_told : (Option Order) → Order
+order_told (Some order) = order
+order_told None = HighFirst
 
 -- CPU_TYPE of FAR
 abbrev pub order_in : List ℕ → Order

@@ -4,10 +4,9 @@
 --   first_checks   its order of checks, as a list
 --   FirstRight    what an accepted one is
 -- Assumes nothing.
-use Rattle.std.specs.Prelude.{◌≡◌, Bool, true, false, ◌&&◌, List, [], ◌∷◌, ℕ, eqb, leb, length}
+use Rattle.numbers.specs.declared.Order.{Order}
+use Rattle.std.specs.Prelude.{◌≡◌, Bool, true, false, ◌&&◌, List, [], ◌∷◌, ℕ, eqb, leb, length, Option, Some, None}
 use Rattle.prelude.specs.Checks.{Check, ◌else◌, number_by}
-use Rattle.numbers.specs.declared.Ordering.{Ordering}
-use Rattle.numbers.specs.declared.Ordering.TheVariants as ordering
 use Rattle.numbers.specs.Orders.{order_of}
 use Rattle.kinds.specs.declared.Kind.TheVariants.{Far}
 use Rattle.kinds.specs.Kinds.{kind_of}
@@ -20,9 +19,9 @@ use Rattle.session.specs.declared.Standing.{Standing}
 use Rattle.session.specs.Verdicts.{verdict_number}
 use Rattle.first_record.specs.First.{judge_first, order_in}
 
-abbrev pub is_known : Ordering → Bool
-is_known (ordering.Known order) = true
-is_known ordering.Unknown = false
+abbrev pub is_known : (Option Order) → Bool
+is_known (Some order) = true
+is_known None = false
 
 -- First record: under 4 bytes 3; not FAR 8; not 6 bytes 3; 4; a length field that isn't 2 in the CPU's order 3; 5
 abbrev pub first_checks : List ℕ → List (Check ℕ)

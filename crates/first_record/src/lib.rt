@@ -5,7 +5,7 @@ ghost use Rattle.std.specs.Prelude.{◌≡◌, ◌≤◌, length};
 ghost use Rattle.first_record.specs.First.{in_order, judge_ordered, judge_in, judge_first};
 
 use answers::Answer;
-use numbers::{Order, Ordering};
+use numbers::Order;
 use order::Place;
 use session::{Change, Standing, Verdict};
 
@@ -36,13 +36,13 @@ fn judge_in(st: Standing, rec: &[u8], order: Order) -> Verdict
     Verdict::Taken(Change::Stands(in_order(st, order)))
 }
 
-fn judge_ordered(st: Standing, rec: &[u8], ordering: Ordering) -> Verdict
+fn judge_ordered(st: Standing, rec: &[u8], ordering: Option<Order>) -> Verdict
     requires { 6 ≤ length rec.now }
     ensures { result ≡ judge_ordered st rec.now ordering }
 {
     match ordering {
-        Ordering::Known(order) => judge_in(st, rec, order),
-        Ordering::Unknown => Verdict::Refused(Answer::UnknownOrder),
+        Some(order) => judge_in(st, rec, order),
+        None => Verdict::Refused(Answer::UnknownOrder),
     }
 }
 

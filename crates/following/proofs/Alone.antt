@@ -1,6 +1,7 @@
 -- Laws of a house where slot 0 alone is open: what slot 0 sees and lends of it, and that a stream delivered over what
 -- is lent is the stream delivered to the house.
 -- Assumes nothing.
+use Rattle.std.specs.Prelude.{None}
 use mathlib.Core.Path.{◌≡◌, refl, ap, sym, subst, ◌∙◌}
 use mathlib.Core.Bool.{Bool, true, false, cond}
 use mathlib.Core.List.{List, []}
@@ -30,7 +31,6 @@ use Rattle.cutting.specs.Laws.{HeardLike, WalkLike, Same, Likeness, always}
 use Rattle.cutting.proofs.Walks.{walked_ever}
 use Rattle.walking.specs.declared.Stop.{Stop}
 use Rattle.walking.specs.declared.Stop.TheVariants.{Refused, TooLong}
-use Rattle.walking.specs.declared.Fate.TheVariants.{Going}
 use Rattle.walking.specs.Walking as walking
 use Rattle.walking.specs.Walking.{delivering}
 use Rattle.walking.specs.Lent.{LentTo, Lendable}
@@ -174,7 +174,7 @@ pub begins : {guesses : List ℕ} → Begun (record {
   standing = (session.begun).standing;
   parts = (session.begun).parts;
   accepted = 0;
-  fate = Going;
+  fate = None;
   held = 0;
 })
 unfolding walked

@@ -1,5 +1,6 @@
 -- Laws of a chunk: what is followed from chunk to chunk.
 -- Assumes nothing.
+use Rattle.std.specs.Prelude.{Option, Some, None}
 use mathlib.Core.Path.{◌≡◌, refl, ap, sym, subst, ◌∙◌}
 use mathlib.Core.Bool.{true}
 use mathlib.Core.List.{List, []}
@@ -19,8 +20,6 @@ use Rattle.cutting.specs.Laws.{WalkLike, Same}
 use Rattle.cutting.proofs.Walks.{walked_append, walked_stops, walked_again}
 use Rattle.cutting.proofs.Moves.{drop_take}
 use Rattle.walking.specs.declared.Stop.{Stop}
-use Rattle.walking.specs.declared.Fate.{Fate}
-use Rattle.walking.specs.declared.Fate.TheVariants.{Going, Stopped}
 use Rattle.walking.specs.declared.Stage.{Stage}
 use Rattle.walking.specs.Walking as walking
 use Rattle.walking.specs.Walking.{delivering, stage_standing, rest, ends_by}
@@ -33,7 +32,7 @@ use Rattle.following.specs.Lent.{Right, Followed}
 use Rattle.following.proofs.Alone.{alone_shaped, Like, stream_alike, lendable}
 
 -- what has stopped does not go on
-never_going : {why : Stop} → Stopped why ≡ Going → ⊥
+never_going : {why : Stop} → Some why ≡ None → ⊥
 never_going e = let no : ◌≡◌ {A = ℕ} 0 1 = cc in omega arith
 
 -- ---- other bytes behind the held ones
@@ -55,7 +54,7 @@ stays : (q : Reached) (why : Stop) (bytes : List ℕ)
     → walked hearing (Stops q [] why []) bytes ≡ Stops q [] why bytes
 stays q why bytes = walked_stops Reached Stop hearing q [] why [] bytes
 
-module _ (s : Stream) (buf : List ℕ) (got : ℕ) (right : Right s buf) (why : Stop) (e : s.fate ≡ Stopped why) where
+module _ (s : Stream) (buf : List ℕ) (got : ℕ) (right : Right s buf) (why : Stop) (e : s.fate ≡ Some why) where
   -- no byte is held
   none : take s.held buf ≡ []
   none =
@@ -63,17 +62,17 @@ module _ (s : Stream) (buf : List ℕ) (got : ℕ) (right : Right s buf) (why : 
       ap behind (sym (stays q why (take s.held buf)))
       ∙ ap behind
       (subst
-      (λ (f : Fate). walked hearing (resumed_by f q []) (take s.held buf) ≡ resumed_by f q (take s.held buf)) e
+      (λ (f : Option Stop). walked hearing (resumed_by f q []) (take s.held buf) ≡ resumed_by f q (take s.held buf)) e
       right.waits)
 
   same : progress_of s buf ≡ followed (progress_of s buf) (take got (drop s.held buf))
   same =
       let q = reached (stream_house s) s.accepted in
       subst
-      (λ (f : Fate).
+      (λ (f : Option Stop).
       progress (stream_house s) s.accepted f (take s.held buf)
       ≡ seen (walked hearing (resumed_by f q (take s.held buf)) (take got (drop s.held buf)))) (sym e)
-      (ap (λ (l : List ℕ). progress (stream_house s) s.accepted (Stopped why) l) none
+      (ap (λ (l : List ℕ). progress (stream_house s) s.accepted (Some why) l) none
       ∙ ap seen (sym (stays q why (take got (drop s.held buf)))))
 
   pub stopped_stays : Followed s buf got s buf
@@ -82,24 +81,24 @@ module _ (s : Stream) (buf : List ℕ) (got : ℕ) (right : Right s buf) (why : 
 -- ---- where a walk over what is lent stands, the house's walk stands
 
 -- the bytes that are held of those left
-abbrev held_of : Fate → List ℕ → List ℕ
-held_of Going left = left
-held_of (Stopped why) left = []
+abbrev held_of : (Option Stop) → List ℕ → List ℕ
+held_of None left = left
+held_of (Some why) left = []
 
-record Landed (fate : Fate) (p : walking.Progress) (left : List ℕ) (v : Walked Reached Stop) : Type 0 where
+record Landed (fate : Option Stop) (p : walking.Progress) (left : List ℕ) (v : Walked Reached Stop) : Type 0 where
   fine : sound (alone_house p.core) ≡ true
   is : seen v ≡ progress (alone_house p.core) p.accepted fate (held_of fate left)
-  waits : fate ≡ Going → v ≡ Waits (reached (alone_house p.core) p.accepted) left
+  waits : fate ≡ None → v ≡ Waits (reached (alone_house p.core) p.accepted) left
 
-landed : (fate : Fate) (p : walking.Progress) (left : List ℕ) (v : Walked Reached Stop)
+landed : (fate : Option Stop) (p : walking.Progress) (left : List ℕ) (v : Walked Reached Stop)
     → WalkLike Like Same (ends_by fate most_length p left) v → Landed fate p left v
-landed Going p left (Waits q other) l =
+landed None p left (Waits q other) l =
     let same : ◌≡◌ {A = Walked Reached Stop} (Waits q other) (Waits (reached (alone_house p.core) p.accepted) left)
     = rw (l.0.is, l.1) in
     record { fine = l.0.fine; is = ap seen same; waits = λ e. same }
-landed Going p left (Stops q r why rest) l = absurd l
-landed (Stopped why) p left (Waits q other) l = absurd l
-landed (Stopped why) p left (Stops q r because rest) l =
+landed None p left (Stops q r why rest) l = absurd l
+landed (Some why) p left (Waits q other) l = absurd l
+landed (Some why) p left (Stops q r because rest) l =
     record {
       fine = l.0.fine;
       is = rw (l.0.is, l.2);
@@ -108,7 +107,7 @@ landed (Stopped why) p left (Stops q r because rest) l =
 
 -- ---- a chunk
 
-module _ (s : Stream) (buf : List ℕ) (got : ℕ) (right : Right s buf) (goes : s.fate ≡ Going)
+module _ (s : Stream) (buf : List ℕ) (got : ℕ) (right : Right s buf) (goes : s.fate ≡ None)
     (there : s.held + got ≤ length buf) (few : s.accepted + (s.held + got) ≤ past_count)
     (long : length s.keys ≡ row_count) (paired : length s.counts ≡ row_count)
     (cells : length s.parts ≡ cell_count) where
@@ -142,7 +141,7 @@ module _ (s : Stream) (buf : List ℕ) (got : ℕ) (right : Right s buf) (goes :
         let q = reached (stream_house s) s.accepted in
         let waits : walked hearing (Waits q []) (take s.held buf) ≡ Waits q (take s.held buf)
         = subst
-        (λ (f : Fate).
+        (λ (f : Option Stop).
         walked hearing (resumed_by f q []) (take s.held buf) ≡ resumed_by f q (take s.held buf)) goes right.waits
         in
         ap (λ (l : List ℕ). seen (walked hearing (Waits q []) l)) (are ∙ take-add s.held got buf)
@@ -150,13 +149,13 @@ module _ (s : Stream) (buf : List ℕ) (got : ℕ) (right : Right s buf) (goes :
         (walked_append Reached Stop hearing (Waits q []) (take s.held buf) (take got (drop s.held buf))
         ∙ ap (λ (w : Walked Reached Stop). walked hearing w (take got (drop s.held buf)))
         (waits
-        ∙ ap (λ (f : Fate). resumed_by f q (take s.held buf)) (sym goes)))
+        ∙ ap (λ (f : Option Stop). resumed_by f q (take s.held buf)) (sym goes)))
 
-    module _ (range : Bytes bytes) (fate : Fate) (c : Core) (k at : ℕ)
+    module _ (range : Bytes bytes) (fate : Option Stop) (c : Core) (k at : ℕ)
         (is : ends_by fate most_length (walking.progress c k) (drop at bytes)
         ≡ walked (delivering alone_room most_length)
         (Waits (walking.progress (stream_core s) s.accepted) []) bytes)
-        (within : at ≤ length bytes) (short : fate ≡ Going → length (drop at bytes) < most_length)
+        (within : at ≤ length bytes) (short : fate ≡ None → length (drop at bytes) < most_length)
         (fits : k + (length bytes - at) ≤ s.accepted + length bytes) where
       abbrev here : Walked Reached Stop
       here = walked hearing (Waits (reached (stream_house s) s.accepted) []) bytes
@@ -174,37 +173,37 @@ module _ (s : Stream) (buf : List ℕ) (got : ℕ) (right : Right s buf) (goes :
         front : take held new ≡ held_of fate (drop at bytes)
         front = go fate count moved
           where
-            go : (f : Fate) → held ≡ end - kept_from f at end → take held new ≡ take held (drop (kept_from f at end) buf)
+            go : (f : Option Stop) → held ≡ end - kept_from f at end → take held new ≡ take held (drop (kept_from f at end) buf)
                 → take held new ≡ held_of f (drop at bytes)
-            go Going is moved =
+            go None is moved =
                 moved
                 ∙ ap (λ (n : ℕ). take n (drop at buf)) is
                 ∙ sym (drop_take at end buf)
                 ∙ ap (λ (l : List ℕ). drop at l) (sym are)
-            go (Stopped why) is moved =
+            go (Some why) is moved =
                 let none : held ≡ 0 = omega arith in
                 ap (λ (n : ℕ). take n new) none
 
         held_few : held < most_length
         held_few = go fate count short
           where
-            go : (f : Fate) → held ≡ end - kept_from f at end → (f ≡ Going → length (drop at bytes) < most_length)
+            go : (f : Option Stop) → held ≡ end - kept_from f at end → (f ≡ None → length (drop at bytes) < most_length)
                 → held < most_length
-            go Going is small = omega (arith, is, size, length-drop at bytes, small refl)
-            go (Stopped why) is small = omega (arith, is)
+            go None is small = omega (arith, is, size, length-drop at bytes, small refl)
+            go (Some why) is small = omega (arith, is)
 
         waits : walked hearing (resumed_by fate (reached (alone_house c) k) []) (take held new)
             ≡ resumed_by fate (reached (alone_house c) k) (take held new)
         unfolding walked
         waits = rw front (go fate lands.waits)
           where
-            go : (f : Fate) → (f ≡ Going → here ≡ Waits (reached (alone_house c) k) (drop at bytes))
+            go : (f : Option Stop) → (f ≡ None → here ≡ Waits (reached (alone_house c) k) (drop at bytes))
                 → walked hearing (resumed_by f (reached (alone_house c) k) []) (held_of f (drop at bytes))
                 ≡ resumed_by f (reached (alone_house c) k) (held_of f (drop at bytes))
-            go Going is =
+            go None is =
                 walked_again Reached Stop hearing (reached (stream_house s) s.accepted) (reached (alone_house c) k)
                 bytes (drop at bytes) (is refl)
-            go (Stopped why) is = refl
+            go (Some why) is = refl
 
         pub chunk_followed : (guesses : List ℕ)
             → Followed s buf got
@@ -235,9 +234,9 @@ module _ (s : Stream) (buf : List ℕ) (got : ℕ) (right : Right s buf) (goes :
               fits = go fate count;
             }
           where
-            go : (f : Fate) → held ≡ end - kept_from f at end → k + held ≤ s.accepted + (s.held + got)
-            go Going is = omega (arith, is, size, fits)
-            go (Stopped why) is = omega (arith, is, size, fits, within)
+            go : (f : Option Stop) → held ≡ end - kept_from f at end → k + held ≤ s.accepted + (s.held + got)
+            go None is = omega (arith, is, size, fits)
+            go (Some why) is = omega (arith, is, size, fits, within)
 
     -- ---- as the walk tells it
 
@@ -247,9 +246,9 @@ module _ (s : Stream) (buf : List ℕ) (got : ℕ) (right : Right s buf) (goes :
       pub walk_ends : {i : ℕ} → i ≡ kept_from w.fate w.at end → i ≤ end
       walk_ends e = rw e (go w.fate)
         where
-          go : (f : Fate) → kept_from f w.at end ≤ end
-          go Going = omega (arith, arrived.within, size)
-          go (Stopped why) = omega arith
+          go : (f : Option Stop) → kept_from f w.at end ≤ end
+          go None = omega (arith, arrived.within, size)
+          go (Some why) = omega arith
 
       pub chunk_told : Bytes bytes → {st : Standing} → st ≡ stage_standing w → {i : ℕ}
           → i ≡ kept_from w.fate w.at end → (held : ℕ) (new : List ℕ) → held ≡ end - i

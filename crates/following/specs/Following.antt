@@ -6,7 +6,7 @@
 --   followed    .. and any bytes more
 --   begun       before the first byte: slot 0 is open with floor 1,024
 -- Assumes nothing.
-use Rattle.std.specs.Prelude.{ℕ, ◌+◌, cond, List, [], eqb}
+use Rattle.std.specs.Prelude.{ℕ, ◌+◌, cond, List, [], eqb, Option, Some, None}
 use Rattle.answers.specs.Numbers.{number_of}
 use Rattle.session.specs.declared.Standing.{Standing}
 use Rattle.house.specs.declared.House.{House}
@@ -16,8 +16,6 @@ use Rattle.house.specs.Calls.{slot_at, open_slot, deliver}
 use Rattle.cutting.specs.Walk.{Heard, Kept, Turned, Machine, Walked, Waits, Stops, walked, cutting}
 use Rattle.walking.specs.declared.Stop.{Stop}
 use Rattle.walking.specs.declared.Stop.TheVariants.{Refused, TooLong}
-use Rattle.walking.specs.declared.Fate.{Fate}
-use Rattle.walking.specs.declared.Fate.TheVariants.{Going, Stopped}
 
 -- too long: a record whose header says over 65,536 bytes
 abbrev pub most_length : ℕ
@@ -46,20 +44,20 @@ hearing =
 pub record Progress : Type 0 where
   pub house : House
   pub accepted : ℕ
-  pub fate : Fate
+  pub fate : Option Stop
   pub held : List ℕ
 
-abbrev pub progress : House → ℕ → Fate → List ℕ → Progress
+abbrev pub progress : House → ℕ → (Option Stop) → List ℕ → Progress
 progress h k fate held = record { house = h; accepted = k; fate = fate; held = held }
 
 -- what stops a stream is final: no byte is kept
 abbrev pub seen : Walked Reached Stop → Progress
-seen (Waits p part) = progress p.house p.accepted Going part
-seen (Stops p r why rest) = progress p.house p.accepted (Stopped why) []
+seen (Waits p part) = progress p.house p.accepted None part
+seen (Stops p r why rest) = progress p.house p.accepted (Some why) []
 
-abbrev pub resumed_by : Fate → Reached → List ℕ → Walked Reached Stop
-resumed_by Going p held = Waits p held
-resumed_by (Stopped why) p held = Stops p [] why []
+abbrev pub resumed_by : (Option Stop) → Reached → List ℕ → Walked Reached Stop
+resumed_by None p held = Waits p held
+resumed_by (Some why) p held = Stops p [] why []
 
 abbrev pub resumed : Progress → Walked Reached Stop
 resumed p = resumed_by p.fate (reached p.house p.accepted) p.held
@@ -69,4 +67,4 @@ followed p bytes = seen (walked hearing (resumed p) bytes)
 
 -- slot 0, floor 1,024
 abbrev pub begun : Progress
-begun = progress (open_slot fresh 0 row_count).house 0 Going []
+begun = progress (open_slot fresh 0 row_count).house 0 None []

@@ -5,14 +5,13 @@
 --   progress_of        how far a stream was followed, its held bytes at the front of a buffer
 --   Right, Followed   a stream between two chunks, and after one more
 -- Assumes nothing.
-use Rattle.std.specs.Prelude.{◌≡◌, true, List, [], ◌∷◌, ℕ, ◌+◌, ◌≤◌, ◌<◌, length, take, drop, replicate}
+use Rattle.walking.specs.declared.Stop.{Stop}
+use Rattle.std.specs.Prelude.{◌≡◌, true, List, [], ◌∷◌, ℕ, ◌+◌, ◌≤◌, ◌<◌, length, take, drop, replicate, Option, Some, None}
 use Rattle.house.specs.declared.House.{House}
 use Rattle.house.specs.declared.Room.{Room}
 use Rattle.house.specs.House.{row_count, closed_slot, sound}
 use Rattle.house.specs.Deliver.{Core, core}
 use Rattle.cutting.specs.Walk.{walked}
-use Rattle.walking.specs.declared.Fate.{Fate}
-use Rattle.walking.specs.declared.Fate.TheVariants.{Going, Stopped}
 use Rattle.walking.specs.declared.Stage.{Stage}
 use Rattle.walking.specs.Walking.{stage}
 use Rattle.following.specs.declared.Stream.{Stream}
@@ -70,9 +69,9 @@ pub record Begun (s : Stream) : Type 0 where
 
 -- its first stage
 abbrev pub staged : Stream → Stage
-staged s = stage s.used s.standing s.accepted Going 0 true
+staged s = stage s.used s.standing s.accepted None 0 true
 
 -- where the bytes begin that are held after it
-abbrev pub kept_from : Fate → ℕ → ℕ → ℕ
-kept_from Going at end = at
-kept_from (Stopped why) at end = end
+abbrev pub kept_from : (Option Stop) → ℕ → ℕ → ℕ
+kept_from None at end = at
+kept_from (Some why) at end = end

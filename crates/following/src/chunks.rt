@@ -1,7 +1,6 @@
 // A stream, chunk by chunk. The bytes of an unfinished record stay at the front of the buffer, and the next chunk is
 // read behind them: no chunk is copied.
-ghost use Rattle.std.specs.Prelude.{◌≡◌, true, ◌+◌, ◌≤◌, length};
-ghost use Rattle.walking.specs.declared.Fate.TheVariants.{Going};
+ghost use Rattle.std.specs.Prelude.{◌≡◌, true, None, ◌+◌, ◌≤◌, length};
 ghost use Rattle.walking.specs.Lent.{past_count};
 ghost use Rattle.following.specs.Lent.{alone_room, kept_from, Right, Begun, Followed};
 
@@ -9,7 +8,7 @@ use crate::Stream;
 use cutting::keep;
 use house::{House, Room};
 use session::Session;
-use walking::{Fate, stage_of, standing_of, walk};
+use walking::{Stop, stage_of, standing_of, walk};
 
 // A record of more bytes is too long.
 const MOST_LENGTH: usize = 65536;
@@ -40,23 +39,23 @@ pub fn begin() -> Stream
         standing,
         parts,
         accepted: 0,
-        fate: Fate::Going,
+        fate: None,
         held: 0,
     }
 }
 
 // Where the bytes begin that are held for the next chunk: none is, once the stream has stopped.
-fn kept_from(fate: Fate, at: usize, end: usize) -> usize
+fn kept_from(fate: Option<Stop>, at: usize, end: usize) -> usize
     ensures { result ≡ kept_from fate at end }
 {
     match fate {
-        Fate::Going => at,
-        Fate::Stopped(_) => end,
+        None => at,
+        Some(_) => end,
     }
 }
 
 fn follow_on(s: Stream, buf: &mut [u8], got: usize) -> Stream
-    requires { Right s buf.old × (s.fate ≡ Going) × (s.held + got ≤ length buf.old)
+    requires { Right s buf.old × (s.fate ≡ None) × (s.held + got ≤ length buf.old)
         × (s.accepted + (s.held + got) ≤ past_count) }
     ensures { Followed s buf.old got result buf.new }
 {
@@ -73,7 +72,7 @@ fn follow_on(s: Stream, buf: &mut [u8], got: usize) -> Stream
         &mut parts,
         alone(),
         MOST_LENGTH,
-        stage_of(s.used, st, s.accepted, Fate::Going, 0, true),
+        stage_of(s.used, st, s.accepted, None, 0, true),
         &buf[0..end],
     );
     let standing = standing_of(w);
@@ -100,7 +99,7 @@ pub fn follow(s: Stream, buf: &mut [u8], got: usize) -> Stream
 {
     let fate = s.fate;
     match fate {
-        Fate::Going => follow_on(s, buf, got),
-        Fate::Stopped(_) => s,
+        None => follow_on(s, buf, got),
+        Some(_) => s,
     }
 }

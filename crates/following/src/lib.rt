@@ -8,7 +8,7 @@ mod chunks;
 pub use chunks::{begin, follow};
 use house::House;
 use session::Standing;
-use walking::Fate;
+use walking::Stop;
 
 // A stream as far as it was followed: slot 0's rows and session, the number of records accepted, and how many bytes
 // of an unfinished record are held. They stand at the front of the lent buffer. No answer depends on the guesses, by
@@ -22,6 +22,6 @@ pub struct Stream {
     pub standing: Standing,
     pub parts: [u64; 40],
     pub accepted: u64,
-    pub fate: Fate,
+    pub fate: Option<Stop>,
     pub held: usize,
 }

@@ -1,5 +1,6 @@
 -- Laws of a delivery over lent rows, as the functions' proofs cite them.
 -- Assumes nothing.
+use Rattle.std.specs.Prelude.{Option, Some, None}
 use mathlib.Core.Path.{◌≡◌, refl, ap, ◌∙◌}
 use mathlib.Core.Bool.{Bool, true, false, ◌||◌}
 use mathlib.Core.List.{List, [], ◌∷◌}
@@ -25,8 +26,6 @@ use Rattle.settling.specs.Settling.{changed}
 use Rattle.settling.proofs.Laws.{changed_stands}
 use Rattle.judging.specs.Judge.{judge}
 use Rattle.house.specs.declared.Room.{Room}
-use Rattle.house.specs.declared.Granting.{Granting}
-use Rattle.house.specs.declared.Granting.TheVariants as granting
 use Rattle.house.specs.House.{row_count}
 use Rattle.house.specs.Deliver.{granted, rowed, row_taken, core, outcome, told, session_of, resulted_if, settled}
 use Rattle.house.specs.Deliver.{delivered, Core, cell_of, noted, guessed, past_counts, LentRows}
@@ -105,25 +104,25 @@ countable room keys counts used at key l ranked e =
 
 module _ (room : Room) (keys counts : List ℕ) (used key : ℕ) where
   pub row_taken_lem : granted room (take used keys) key ≡ true → (ks cs : List ℕ) (n : ℕ)
-      → rows ks cs n ≡ counted keys counts used key → rowed ks cs (granting.Rows n) ≡ row_taken room keys counts used key
+      → rows ks cs n ≡ counted keys counts used key → rowed ks cs (Some n) ≡ row_taken room keys counts used key
   unfolding row_taken
-  row_taken_lem e ks cs n is = rw e (ap (λ (r : Rows). rowed r.keys r.counts (granting.Rows r.used)) is)
+  row_taken_lem e ks cs n is = rw e (ap (λ (r : Rows). rowed r.keys r.counts (Some r.used)) is)
 
   pub row_none : granted room (take used keys) key ≡ false
-      → rowed keys counts granting.NoRoom ≡ row_taken room keys counts used key
+      → rowed keys counts None ≡ row_taken room keys counts used key
   unfolding row_taken
   row_none e = rw e
 
 -- ---- a part result
 
 module _ (room : Room) (c : Core) (change : Change) (key k : ℕ) (keyed : k ≡ row_key room.slot key) (ks cs : List ℕ)
-    (g : Granting) (is : rowed ks cs g ≡ row_taken room c.keys c.counts c.used k) where
-  pub resulted_rows : (n : ℕ) (s : Session) → g ≡ granting.Rows n → s ≡ changed (session_of c) change
+    (g : Option ℕ) (is : rowed ks cs g ≡ row_taken room c.keys c.counts c.used k) where
+  pub resulted_rows : (n : ℕ) (s : Session) → g ≡ Some n → s ≡ changed (session_of c) change
       → told answer.Done ks cs n s ≡ resulted_if room c change key
   unfolding resulted_if
   resulted_rows n s got then = rw (← keyed, ← is, got, then)
 
-  pub resulted_none : g ≡ granting.NoRoom
+  pub resulted_none : g ≡ None
       → told answer.NoRoom ks cs c.used (session_of c) ≡ resulted_if room c change key
   unfolding resulted_if
   resulted_none got = rw (← keyed, ← is, got)

@@ -1,6 +1,7 @@
 -- Demand 3's first clauses and that 15 is never given, proved (specs/Demands.antt): each is what soundness says of the
 -- house that is reached. And what an answer carries, by one law over all that a house may answer.
 -- Assumes nothing.
+use Rattle.std.specs.Prelude.{Option, Some, None}
 use mathlib.Core.Path.{◌≡◌, refl, ap, sym, ◌∙◌}
 use mathlib.Core.Bool.{Bool, true, false, not, ◌&&◌, false≢true}
 use mathlib.Core.List.{List}
@@ -14,8 +15,6 @@ use Rattle.prelude.proofs.Both.{both_left, both_right}
 use Rattle.prelude.proofs.Checks.{checked_where}
 use Rattle.answers.specs.declared.Answer.{Answer}
 use Rattle.answers.specs.declared.Answer.TheVariants.{Done, NoRoom, NotSound}
-use Rattle.answers.specs.declared.Values.{Values}
-use Rattle.answers.specs.declared.Values.TheVariants.{Nothing, Part}
 use Rattle.answers.specs.Numbers.{number_of, values_of}
 use Rattle.rising.proofs.Laws.{rising_apart}
 use Rattle.rows.specs.Rows.{slot_of, row_key, held_by}
@@ -43,9 +42,9 @@ use Rattle.house.proofs.Counting.{reached_shaped, keys_long}
 
 -- ---- what is answered
 
-abbrev plain : Values → Bool
-plain Nothing = true
-plain (Part head site) = false
+abbrev plain : (Option (ℕ × ℕ)) → Bool
+plain None = true
+plain (Some (head, site)) = false
 
 -- a sound house's own answers: neither 15 nor 12, and nothing beside the number
 housed : Answer → Bool
@@ -124,7 +123,7 @@ never_unsound calls c sent own = sound_other (reached fresh calls) (reached_soun
 
 -- ---- what an answer carries
 
-plain_told : (a : Answer) → housed a ≡ true → (eqb (number_of a) 12 ≡ false) × (values_of a ≡ Nothing)
+plain_told : (a : Answer) → housed a ≡ true → (eqb (number_of a) 12 ≡ false) × (values_of a ≡ None)
 unfolding housed
 plain_told a e =
     let n = number_of a in
@@ -133,9 +132,9 @@ plain_told a e =
       none (values_of a) (both_right (not (eqb n 12)) (plain (values_of a)) rest),
     )
   where
-    none : (v : Values) → plain v ≡ true → v ≡ Nothing
-    none Nothing t = refl
-    none (Part head site) t = absurd (false≢true t)
+    none : (v : Option (ℕ × ℕ)) → plain v ≡ true → v ≡ None
+    none None t = refl
+    none (Some (head, site)) t = absurd (false≢true t)
 
 -- an answer to a record carries what a session's own refusal does
 pub deliver_carries : (h : House) (slot : ℕ) (rec : List ℕ) → sound h ≡ true
@@ -148,10 +147,10 @@ deliver_carries h slot rec e =
     (λ a is. (judged_refusal s rec a is).1)
 
 -- .. and no other call's answer carries anything
-pub plain_answer : (h : House) → sound h ≡ true → (c : Call) → Refusals (λ (a : Answer). values_of a ≡ Nothing) h c
-    → values_of (answer_of (reply h c)) ≡ Nothing
+pub plain_answer : (h : House) → sound h ≡ true → (c : Call) → Refusals (λ (a : Answer). values_of a ≡ None) h c
+    → values_of (answer_of (reply h c)) ≡ None
 plain_answer h e c refused =
-    answer_by_lem (λ (a : Answer). values_of a ≡ Nothing) (λ a t. (plain_told a t).1) h e c refused
+    answer_by_lem (λ (a : Answer). values_of a ≡ None) (λ a t. (plain_told a t).1) h e c refused
 
 -- ---- each row has one holder, and no two have one key
 

@@ -7,7 +7,7 @@
 --   delivered   .. and after a record
 --   guessed     what is noted of where a row stood, for the next search
 -- Assumes nothing.
-use Rattle.std.specs.Prelude.{◌≡◌, Bool, true, cond, ◌||◌, List, ℕ, ◌+◌, ◌-◌, ◌*◌, ◌/◌, ◌%◌, ◌≤◌, ◌<◌, ltb, length, take, set}
+use Rattle.std.specs.Prelude.{◌≡◌, Bool, true, cond, ◌||◌, List, ℕ, ◌+◌, ◌-◌, ◌*◌, ◌/◌, ◌%◌, ◌≤◌, ◌<◌, ltb, length, take, set, Option, Some, None}
 use Rattle.answers.specs.declared.Answer.{Answer}
 use Rattle.answers.specs.declared.Answer.TheVariants as answer
 use Rattle.answers.specs.declared.Answer.TheVariants.{Done}
@@ -22,8 +22,6 @@ use Rattle.session.specs.Session.{LentParts}
 use Rattle.settling.specs.Settling.{lent_session, changed}
 use Rattle.judging.specs.Judge.{judge}
 use Rattle.house.specs.declared.Room.{Room}
-use Rattle.house.specs.declared.Granting.{Granting}
-use Rattle.house.specs.declared.Granting.TheVariants.{Rows, NoRoom}
 use Rattle.house.specs.House.{row_count, Lent}
 
 -- a PRR's key that its session holds needs no row; a new one gets one exactly if the session holds fewer rows than
@@ -67,22 +65,22 @@ told a keys counts used s = outcome a keys counts used s.standing s.parts
 pub record Rowed : Type 0 where
   pub keys : List ℕ
   pub counts : List ℕ
-  pub granting : Granting
+  pub granting : Option ℕ
 
-abbrev pub rowed : List ℕ → List ℕ → Granting → Rowed
+abbrev pub rowed : List ℕ → List ℕ → (Option ℕ) → Rowed
 rowed keys counts g = record { keys = keys; counts = counts; granting = g }
 
 -- one part more under a key, where it is granted
 unfoldable pub row_taken : Room → List ℕ → List ℕ → ℕ → ℕ → Rowed
 row_taken room keys counts used key =
     let rows = counted keys counts used key in
-    cond (granted room (take used keys) key) (rowed rows.keys rows.counts (Rows rows.used))
-    (rowed keys counts NoRoom)
+    cond (granted room (take used keys) key) (rowed rows.keys rows.counts (Some rows.used))
+    (rowed keys counts None)
 
 -- a part result: it changes its session only with its row, and room, 13, is judged last
-abbrev pub resulted : Rowed → ℕ → Session → Change → Granting → Outcome
-resulted r used s change (Rows n) = told Done r.keys r.counts n (changed s change)
-resulted r used s change NoRoom = told answer.NoRoom r.keys r.counts used s
+abbrev pub resulted : Rowed → ℕ → Session → Change → (Option ℕ) → Outcome
+resulted r used s change (Some n) = told Done r.keys r.counts n (changed s change)
+resulted r used s change None = told answer.NoRoom r.keys r.counts used s
 
 unfoldable pub resulted_if : Room → Core → Change → ℕ → Outcome
 resulted_if room c change key =

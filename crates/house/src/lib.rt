@@ -74,13 +74,6 @@ pub struct Delivered {
     pub standing: Standing,
 }
 
-// Whether a part result got its row: how many rows are in use once it is counted, or none.
-#[derive(Clone, Copy)]
-pub enum Granting {
-    Rows(usize),
-    NoRoom,
-}
-
 // A row of a report: its key and its count.
 #[derive(Clone, Copy)]
 pub struct Row {

@@ -1,5 +1,7 @@
 -- Laws of lines: the next byte stops, or is one more; a part that is laid stays within its line.
 -- Assumes nothing.
+use Rattle.std.specs.Prelude.{Result, Ok}
+use Rattle.answers.specs.declared.Answer.{Answer}
 use mathlib.Core.Path.{◌≡◌, refl, sym, ap}
 use mathlib.Core.Bool.{Bool, true, false}
 use mathlib.Core.List.{List}
@@ -10,8 +12,6 @@ use borrow.Author.Tests.{eq-eqb, ne_eqb, leb-true}
 use lib.Dec.{leb}
 use lib.ListN.{length, get_or, drop, drop_of_length-le}
 use lib.Seq.{drop-cons}
-use Rattle.output.specs.declared.Written.{Written}
-use Rattle.output.specs.declared.Written.TheVariants.{Bytes}
 use Rattle.answers.specs.declared.Answer.TheVariants.{OutputTooShort}
 use Rattle.output.specs.Placed.{Outcome, outcome, placed_at}
 use Rattle.output.proofs.Laws.{refused_bytes}
@@ -31,8 +31,8 @@ module _ (stop : ℕ) (s : List ℕ) (i : ℕ) where
     unfolding up_to
     up_to_goes is = rw (drop-cons s i 0 within, ne_eqb (get_or s i 0) stop is, add-one i) (omega arith)
 
-pub placed_within : (bytes old : List ℕ) (at : ℕ) (written : Written) (new : List ℕ) (n : ℕ)
-    → outcome written new ≡ placed_at bytes old at → written ≡ Bytes n → at + n ≤ length old
+pub placed_within : (bytes old : List ℕ) (at : ℕ) (written : Result ℕ Answer) (new : List ℕ) (n : ℕ)
+    → outcome written new ≡ placed_at bytes old at → written ≡ Ok n → at + n ≤ length old
 unfolding placed_at
 placed_within bytes old at written new n e is = go (leb (at + length bytes) (length old)) refl
   where
@@ -40,5 +40,5 @@ placed_within bytes old at written new n e is = go (leb (at + length bytes) (len
     go false f = refused_bytes OutputTooShort old n new (sym (rw (f, is) at e))
     go true f =
         let room = leb-true (at + length bytes) (length old) f in
-        let answers : Bytes n ≡ Bytes (length bytes) = ap (λ (o : Outcome). o.answer) (rw (f, is) at e) in
+        let answers : Ok n ≡ Ok (length bytes) = ap (λ (o : Outcome). o.answer) (rw (f, is) at e) in
         let size : n ≡ length bytes = cc in omega arith

@@ -8,7 +8,7 @@ ghost use Rattle.output.specs.Placed.{outcome, placed_at};
 ghost use Rattle.input.specs.Lines.{up_to};
 
 use answers::Answer;
-use output::{Written, put_part};
+use output::put_part;
 use std::io::Read;
 
 // Of the first `got` bytes of the chunk the last `left` are still to be taken.
@@ -67,17 +67,17 @@ pub fn until(bytes: &[u8], stop: u8) -> usize
 }
 
 // Lays bytes behind the first `long` of the line, where they fit.
-fn gather(line: &mut [u8], long: usize, bytes: &[u8]) -> Written
+fn gather(line: &mut [u8], long: usize, bytes: &[u8]) -> Result<usize, Answer>
     ensures { outcome result line.new ≡ placed_at bytes.now line.old long }
 {
     if line.len() < long {
-        return Written::Refused(Answer::OutputTooShort);
+        return Err(Answer::OutputTooShort);
     }
     if line.len() - long < bytes.len() {
-        return Written::Refused(Answer::OutputTooShort);
+        return Err(Answer::OutputTooShort);
     }
     let n = put_part(&mut line[long..], bytes, 0, bytes.len());
-    Written::Bytes(n)
+    Ok(n)
 }
 
 // How many bytes are left behind a line that ends at `end`, and behind its LF.
@@ -99,7 +99,7 @@ fn take_part(g: Gathered, line: &mut [u8], bytes: &[u8]) -> Gathered
     let left = left_behind(bytes, end);
     let long = g.long;
     match gather(line, long, &bytes[0..end]) {
-        Written::Bytes(n) => Gathered {
+        Ok(n) => Gathered {
             got: g.got,
             left,
             long: long + n,
@@ -107,7 +107,7 @@ fn take_part(g: Gathered, line: &mut [u8], bytes: &[u8]) -> Gathered
             going: end == bytes.len(),
             ended: false,
         },
-        Written::Refused(_) => Gathered {
+        Err(_) => Gathered {
             got: g.got,
             left,
             long: 0,

@@ -1,6 +1,7 @@
 -- The statements of specs/Laws.antt, proved. Every verdict is a refusal, or one of eight ways to be accepted: `judge-
 -- cases` and kind_effects' `said_cases` say so once, and each law is shown of the eight.
 -- Assumes nothing.
+use Rattle.std.specs.Prelude.{Some}
 use mathlib.Core.Path.{◌≡◌, refl, ap, sym, subst, ◌∙◌}
 use mathlib.Core.Bool.{Bool, true, false, cond}
 use mathlib.Core.List.{List, map, ◌++◌}
@@ -18,12 +19,10 @@ use Rattle.kinds.specs.Kinds.{kind_of}
 use Rattle.frames.specs.Frames.{header, rec_typ, rec_sub, body}
 use Rattle.bodies.specs.declared.Record.{Record}
 use Rattle.bodies.specs.declared.Record.TheVariants as said
-use Rattle.bodies.specs.declared.Reading.TheVariants.{Fits}
 use Rattle.bodies.specs.Bodies.{read_body}
 use Rattle.bodies.specs.Laws.{Right}
 use Rattle.bodies.proofs.Said.{said_right}
 use Rattle.order.specs.declared.Place.{Place}
-use Rattle.order.specs.declared.Step.TheVariants.{To}
 use Rattle.order.specs.Order.{goes}
 use Rattle.order.specs.Laws.{before}
 use Rattle.order.proofs.Laws.{never_back, never_start}
@@ -73,8 +72,8 @@ module _ (st : Standing) (cells : List ℕ) (P : Verdict → Type 0)
     (refused : (a : Answer) → ByItself (take st.opened cells) a → P (Refused a)) where
   judge_cases : (rec : List ℕ)
       → ((order : Order) → is_start st.place ≡ true → order_in rec ≡ order → P (Taken (stands (in_order st order))))
-      → ((k : Kind) (q : Place) (r : Record) → kind_of (rec_typ rec) (rec_sub rec) ≡ k → goes st.place k ≡ To q
-      → read_body st.order k (body rec) ≡ Fits r → P (judge_said (at st q) cells r))
+      → ((k : Kind) (q : Place) (r : Record) → kind_of (rec_typ rec) (rec_sub rec) ≡ k → goes st.place k ≡ Some q
+      → read_body st.order k (body rec) ≡ Some r → P (judge_said (at st q) cells r))
       → P (judge st cells rec)
   unfolding judge
   judge_cases rec first later = go (is_start st.place) refl

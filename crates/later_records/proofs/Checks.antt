@@ -1,6 +1,7 @@
 -- The ways in which a later record is judged, as a law by which every other is shown: a refusal, or what its kind does.
 -- And its order of checks as a list (specs/Laws.antt), proved.
 -- Assumes nothing.
+use Rattle.std.specs.Prelude.{Option, Some, None}
 use mathlib.Core.Path.{◌≡◌, refl, ap, sym, ◌∙◌}
 use mathlib.Core.Bool.{Bool, true, false, false≢true}
 use mathlib.Core.List.{List}
@@ -17,14 +18,10 @@ use Rattle.kinds.specs.Kinds.{kind_of, known}
 use Rattle.frames.specs.Frames.{rec_typ, rec_sub, body, is_record}
 use Rattle.bodies.specs.declared.Record.{Record}
 use Rattle.bodies.specs.declared.Record.TheVariants as said
-use Rattle.bodies.specs.declared.Reading.{Reading}
-use Rattle.bodies.specs.declared.Reading.TheVariants.{Fits, Misfit}
 use Rattle.bodies.specs.Bodies.{read_body, fitting, said_of}
 use Rattle.bodies.specs.Laws.{said_by}
 use Rattle.bodies.proofs.Said.{said_by_lem}
 use Rattle.order.specs.declared.Place.{Place}
-use Rattle.order.specs.declared.Step.{Step}
-use Rattle.order.specs.declared.Step.TheVariants.{To, OutOfPlace}
 use Rattle.order.specs.Order.{goes, in_place, place_after}
 use Rattle.order.specs.Laws.{before, ended, opening}
 use Rattle.order.proofs.Laws.{before_by_opening, ended_by_mrr}
@@ -43,8 +40,8 @@ use Rattle.later_records.specs.Laws.{LaterNumber}
 module _ (st : Standing) (cells : List ℕ) (P : Verdict → Type 0)
     (refused : (a : Answer) → ByItself (take st.opened cells) a → P (Refused a)) where
   pub later_cases : (rec : List ℕ)
-      → ((k : Kind) (q : Place) (r : Record) → kind_of (rec_typ rec) (rec_sub rec) ≡ k → goes st.place k ≡ To q
-      → read_body st.order k (body rec) ≡ Fits r → P (judge_said (at st q) cells r))
+      → ((k : Kind) (q : Place) (r : Record) → kind_of (rec_typ rec) (rec_sub rec) ≡ k → goes st.place k ≡ Some q
+      → read_body st.order k (body rec) ≡ Some r → P (judge_said (at st q) cells r))
       → P (judge_later st cells rec)
   unfolding judge_later
   later_cases rec accepted =
@@ -55,14 +52,14 @@ module _ (st : Standing) (cells : List ℕ) (P : Verdict → Type 0)
       named : Kind
       named = kind_of (rec_typ rec) (rec_sub rec)
 
-      by_step : (step : Step) (reading : Reading) → goes st.place named ≡ step
+      by_step : (step : Option Place) (reading : Option Record) → goes st.place named ≡ step
           → read_body st.order named (body rec) ≡ reading
           → P (Refused answer.OutOfPlace unless in_place step then
           Refused answer.BodyMisfit unless fitting reading then
           judge_said (at st (place_after step)) cells (said_of reading))
-      by_step OutOfPlace reading e f = refused answer.OutOfPlace (refl, refl)
-      by_step (To q) Misfit e f = refused answer.BodyMisfit (refl, refl)
-      by_step (To q) (Fits r) e f = accepted named q r refl e f
+      by_step None reading e f = refused answer.OutOfPlace (refl, refl)
+      by_step (Some q) None e f = refused answer.BodyMisfit (refl, refl)
+      by_step (Some q) (Some r) e f = accepted named q r refl e f
 
 -- ---- where a record stands that does something
 
@@ -99,8 +96,8 @@ opening_still order kind.Custom b h = refl
 opening_still order kind.Unknown b h = refl
 
 -- a record in its place, of a kind that was named and a body that fits
-module _ (order : Order) (p q : Place) (k : Kind) (b : List ℕ) (r : Record) (to : goes p k ≡ To q)
-    (fits : read_body order k b ≡ Fits r) where
+module _ (order : Order) (p q : Place) (k : Kind) (b : List ℕ) (r : Record) (to : goes p k ≡ Some q)
+    (fits : read_body order k b ≡ Some r) where
   still_before : before q ≡ true → acts r ≡ false
   still_before h = ap acts (said_by_lem order k b r fits) ∙ opening_still order k b (before_by_opening p q k to h)
 

@@ -1,6 +1,7 @@
 -- Laws of a later record's judgement, as the functions' proofs cite them: one an answer, each under the tests before
 -- it, in the order of the checks.
 -- Assumes nothing.
+use Rattle.std.specs.Prelude.{Some, None}
 use mathlib.Core.Path.{◌≡◌}
 use mathlib.Core.Bool.{true, false}
 use mathlib.Core.List.{List}
@@ -10,10 +11,8 @@ use Rattle.kinds.specs.declared.Kind.{Kind}
 use Rattle.kinds.specs.Kinds.{kind_of, known}
 use Rattle.frames.specs.Frames.{rec_typ, rec_sub, body, is_record}
 use Rattle.bodies.specs.declared.Record.{Record}
-use Rattle.bodies.specs.declared.Reading.TheVariants.{Fits, Misfit}
 use Rattle.bodies.specs.Bodies.{read_body}
 use Rattle.order.specs.declared.Place.{Place}
-use Rattle.order.specs.declared.Step.TheVariants.{To, OutOfPlace}
 use Rattle.order.specs.Order.{goes}
 use Rattle.session.specs.declared.Standing.{Standing}
 use Rattle.session.specs.declared.Verdict.TheVariants.{Refused}
@@ -45,17 +44,17 @@ module _ (st : Standing) (cells rec : List ℕ) where
       later_unknown e = rw (framed, ← named, e)
 
       module _ (is_Known : known kind ≡ true) where
-        pub later_out : goes st.place kind ≡ OutOfPlace → judge_later st cells rec ≡ Refused answer.OutOfPlace
+        pub later_out : goes st.place kind ≡ None → judge_later st cells rec ≡ Refused answer.OutOfPlace
         unfolding judge_later
         later_out e = rw (framed, ← named, is_Known, e)
 
-        module _ (place : Place) (to : goes st.place kind ≡ To place) where
-          pub later_misfit : read_body st.order kind (body rec) ≡ Misfit
+        module _ (place : Place) (to : goes st.place kind ≡ Some place) where
+          pub later_misfit : read_body st.order kind (body rec) ≡ None
               → judge_later st cells rec ≡ Refused answer.BodyMisfit
           unfolding judge_later
           later_misfit e = rw (framed, ← named, is_Known, to, e)
 
-          pub later_said : (said : Record) → read_body st.order kind (body rec) ≡ Fits said
+          pub later_said : (said : Record) → read_body st.order kind (body rec) ≡ Some said
               → judge_later st cells rec ≡ judge_said (at st place) cells said
           unfolding judge_later
           later_said said e = rw (framed, ← named, is_Known, to, e)

@@ -3,14 +3,12 @@
 --
 --   result_of    the part result that a record is, by its key, or none: PRR's head, site and hardware bin
 -- Assumes nothing.
-use Rattle.std.specs.Prelude.{ℕ, List}
+use Rattle.std.specs.Prelude.{ℕ, List, Option, Some, None}
 use Rattle.numbers.specs.declared.Order.{Order}
 use Rattle.kinds.specs.Kinds.{kind_of}
 use Rattle.frames.specs.Frames.{rec_typ, rec_sub, body}
 use Rattle.bodies.specs.declared.Record.{Record}
 use Rattle.bodies.specs.declared.Record.TheVariants as said
-use Rattle.bodies.specs.declared.Reading.{Reading}
-use Rattle.bodies.specs.declared.Reading.TheVariants.{Fits, Misfit}
 use Rattle.bodies.specs.Bodies.{read_body}
 use Rattle.session.specs.Session.{key_of}
 
@@ -30,9 +28,9 @@ result_in (said.Wir w) = None
 result_in (said.Wrr w) = None
 result_in said.Unread = None
 
-abbrev pub result_read : Reading → Result
-result_read (Fits r) = result_in r
-result_read Misfit = None
+abbrev pub result_read : (Option Record) → Result
+result_read (Some r) = result_in r
+result_read None = None
 
 -- every accepted PRR counts as one part
 abbrev pub result_of : Order → List ℕ → Result

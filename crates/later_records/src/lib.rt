@@ -6,11 +6,11 @@ ghost use Rattle.session.specs.Session.{LentParts};
 ghost use Rattle.later_records.specs.Later.{at, judge_later};
 
 use answers::Answer;
-use bodies::{Reading, read_body};
+use bodies::read_body;
 use frames::is_record;
 use kind_effects::judge_said;
 use kinds::{Kind, is_known, kind_of};
-use order::{Place, Step, next_place};
+use order::{Place, next_place};
 use session::{Standing, Verdict};
 
 fn placed(st: Standing, place: Place) -> Standing
@@ -43,11 +43,11 @@ pub fn judge_later(st: Standing, parts: &[u64], rec: &[u8]) -> Verdict
     }
     let place = st.place;
     let step = next_place(place, kind);
-    let Step::To(next) = step else {
+    let Some(next) = step else {
         return Verdict::Refused(Answer::OutOfPlace);
     };
     let reading = read_body(order, kind, &rec[4..]);
-    let Reading::Fits(said) = reading else {
+    let Some(said) = reading else {
         return Verdict::Refused(Answer::BodyMisfit);
     };
     judge_said(placed(st, next), parts, said)

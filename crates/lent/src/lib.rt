@@ -14,7 +14,7 @@ ghost use Rattle.house.specs.Deliver.{granted, rowed, row_taken, outcome, core, 
 ghost use Rattle.house.specs.Deliver.{cell_of, noted, guessed};
 
 use answers::Answer;
-use house::{Delivered, Granting, House, Room};
+use house::{Delivered, House, Room};
 use judging::judge_lent;
 use rising::holds;
 use rows::{count_row, held_by};
@@ -88,7 +88,7 @@ fn take_row(
     room: Room,
     cell: usize,
     key: u64,
-) -> Granting
+) -> Option<usize>
     requires { LentRows room keys.old counts.old used }
     ensures { (rowed keys.new counts.new result
         ≡ row_taken room keys.old counts.old used key)
@@ -96,9 +96,9 @@ fn take_row(
 {
     let at = find_row(keys, used, guesses, cell, key);
     if is_granted(keys, used, room, at, key) {
-        Granting::Rows(count_row(keys, counts, used, at, key))
+        Some(count_row(keys, counts, used, at, key))
     } else {
-        Granting::NoRoom
+        None
     }
 }
 
@@ -132,7 +132,7 @@ fn result_lent(
         cell_of(key),
         row_key(slot, key),
     ) {
-        Granting::Rows(n) => {
+        Some(n) => {
             let standing = settle_parts(st, parts, change);
             Delivered {
                 answer: Answer::Done,
@@ -140,7 +140,7 @@ fn result_lent(
                 standing,
             }
         }
-        Granting::NoRoom => {
+        None => {
             let standing = settle_parts(st, parts, kept);
             Delivered {
                 answer: Answer::NoRoom,

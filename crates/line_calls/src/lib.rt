@@ -5,8 +5,8 @@
 
 ghost use Rattle.std.specs.Prelude.{◌≡◌, ◌≤◌, length};
 
+use answers::Answer;
 use asking::Way;
-use output::Written;
 use std::io;
 use transcript::{say, say_answer, say_number};
 
@@ -69,17 +69,17 @@ fn say_lent(rt: &impl Print, out: &[u8]) -> io::Result<()>
 }
 
 // The answer, and after a 0 the number of bytes that were written.
-fn say_written(rt: &impl Print, written: Written) -> io::Result<()> {
+fn say_written(rt: &impl Print, written: Result<usize, Answer>) -> io::Result<()> {
     match written {
-        Written::Bytes(n) => {
+        Ok(n) => {
             say(rt, b"0 ")?;
             say_number(rt, n as u64)
         }
-        Written::Refused(answer) => say_answer(rt, answer),
+        Err(answer) => say_answer(rt, answer),
     }
 }
 
-fn called(way: Way, order: u8, bytes: &[u8], out: &mut [u8], at: usize) -> Written {
+fn called(way: Way, order: u8, bytes: &[u8], out: &mut [u8], at: usize) -> Result<usize, Answer> {
     match way {
         Way::Write => lines::write_line(order, bytes, out, at),
         Way::Read => lines::read_line(order, bytes, out, at),

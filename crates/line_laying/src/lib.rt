@@ -19,7 +19,7 @@ use line_layouts::forms::{is_name, is_time, missing_value};
 use line_layouts::judging::{is_missing, said_at};
 use line_layouts::{Form, Layout, Line, Said, Tag};
 use numbers::Order;
-use output::{Written, put_pair};
+use output::put_pair;
 use values::Name;
 
 // A number in a line: a time is a date.
@@ -329,7 +329,13 @@ fn put_all(out: &mut [u8], layout: Layout, source: &[u8], line: Line, n: usize, 
 }
 
 // A line or a record at an offset of the lent output.
-pub fn place(out: &mut [u8], at: usize, layout: Layout, source: &[u8], line: Line) -> Written
+pub fn place(
+    out: &mut [u8],
+    at: usize,
+    layout: Layout,
+    source: &[u8],
+    line: Line,
+) -> Result<usize, Answer>
     requires { AllWithin source.now line }
     ensures { outcome result out.new
         ≡ placed_at (laid_out layout (meaning_of source.now line)) out.old at }
@@ -337,11 +343,11 @@ pub fn place(out: &mut [u8], at: usize, layout: Layout, source: &[u8], line: Lin
     let n = present_count(layout, line);
     let size = fields_size(layout, source, line, n);
     if out.len() < at {
-        return Written::Refused(Answer::OutputTooShort);
+        return Err(Answer::OutputTooShort);
     }
     if out.len() - at < size + 4 {
-        return Written::Refused(Answer::OutputTooShort);
+        return Err(Answer::OutputTooShort);
     }
     let k = put_all(&mut out[at..], layout, source, line, n, size as u32);
-    Written::Bytes(k)
+    Ok(k)
 }

@@ -72,13 +72,6 @@ pub enum Layout {
     Record(Order),
 }
 
-// Which line a text begins, or a kind of record has.
-#[derive(Clone, Copy)]
-pub enum Tagging {
-    Known(Tag),
-    Other,
-}
-
 // Whether something stands against a line.
 #[derive(Clone, Copy)]
 pub enum Fault {

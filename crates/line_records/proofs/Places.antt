@@ -1,5 +1,6 @@
 -- What the walk of this code needs: a field read at its place says what the definition says, one step, and the loop.
 -- Assumes nothing.
+use Rattle.std.specs.Prelude.{Option, Some, None}
 use mathlib.Core.Path.{◌≡◌, refl, ap, sym, ◌∙◌}
 use mathlib.Core.Bool.{Bool, true, false, cond, ◌&&◌}
 use mathlib.Core.List.{List, [], ◌∷◌, ◌++◌, append-nil, map}
@@ -28,8 +29,6 @@ use Rattle.line_layouts.specs.Entries.{Entry, Missing, Number, Text, entry_of, W
 use Rattle.line_layouts.specs.Layouts.{is_name}
 use Rattle.line_layouts.proofs.Fills.{says, says_more}
 use Rattle.line_layouts.specs.Fitting.{is_number, is_beside, is_flag, is_letter, is_none}
-use Rattle.line_records.specs.declared.Step.{Step}
-use Rattle.line_records.specs.declared.Step.TheVariants as step
 use Rattle.line_records.specs.Walks.{Fit, Fits, Misfit, put, size, number_said, letter_said, name_said}
 use Rattle.line_records.specs.Walks.{value_said, field_said, walked, hidden_one, hidden, hiding, meant_by}
 use Rattle.line_records.specs.Places.{number_at, letter_at, name_at, number_in, value_at, field_at, saying, behind}
@@ -341,9 +340,9 @@ module _ (k : ℕ) (ends : Order) (c : Column) (s : List ℕ) (at : ℕ) where
         walked_on ends c cs k (drop at s) (omega (arith, length-drop at s))
         ∙ rw (field_at_lem ends s at c (omega arith), drop-drop (size c.0 (drop at s)) at s)
 
-    pub goes_field : (r : Step) → Stepped ends c s at r → Going ends c s k at r
-    goes_field step.Misfit f = λ cs. goes cs ∙ rw f
-    goes_field (step.Says f next) g =
+    pub goes_field : (r : Option (Said × ℕ)) → Stepped ends c s at r → Going ends c s k at r
+    goes_field None f = λ cs. goes cs ∙ rw f
+    goes_field (Some (f, next)) g =
         let inside = lt-ltb at (length s) here in (
           (λ cs. goes cs ∙ rw (g.0, ← g.1)),
           g.2,
@@ -387,10 +386,10 @@ module _ (k : ℕ) (ends : Order) (cs : List Column) (s : List ℕ) where
 
   module _ (read : List Entry) (last : Entry) (at j : ℕ) (rest : Rest read last at j) where
     module _ (more : j < length cs) where
-      pub rest_misfit : Going ends (get_or cs j no_column) s (k - j) at step.Misfit → meant_by k ends cs s ≡ Misfit
+      pub rest_misfit : Going ends (get_or cs j no_column) s (k - j) at None → meant_by k ends cs s ≡ Misfit
       rest_misfit g = rest ∙ rw (drop-cons cs j no_column more, g (drop (suc j) cs), behind_misfit read)
 
-      pub rest_on : (f : Said) (next : ℕ) → Going ends (get_or cs j no_column) s (k - j) at (step.Says f next)
+      pub rest_on : (f : Said) (next : ℕ) → Going ends (get_or cs j no_column) s (k - j) at (Some (f, next))
           → Rest (read ++ hidden_one (get_or cs j no_column) last (entry_of s f) ∷ [])
           (hidden_one (get_or cs j no_column) last (entry_of s f)) next (j + 1)
       rest_on f next g =
@@ -450,11 +449,11 @@ module _ (k : ℕ) (ends : Order) (cs : List Column) (s : List ℕ) where
     read = map (says s) (take j fields)
 
     module _ (more : j < length cs) where
-      pub filled_misfit : Going ends (get_or cs j no_column) s (k - j) at step.Misfit → meant_by k ends cs s ≡ Misfit
+      pub filled_misfit : Going ends (get_or cs j no_column) s (k - j) at None → meant_by k ends cs s ≡ Misfit
       filled_misfit g = rest_misfit k ends cs s read filled.last at j filled.rest more g
 
       pub filled_on : (f : Said) (next : ℕ) → j < length fields
-          → Going ends (get_or cs j no_column) s (k - j) at (step.Says f next)
+          → Going ends (get_or cs j no_column) s (k - j) at (Some (f, next))
           → Filled (set fields j (record { said = hidden_said (get_or cs j no_column) gone f })) next
           (is_missing (hidden_said (get_or cs j no_column) gone f)) (j + 1)
       filled_on f next room g =

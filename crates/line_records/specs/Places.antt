@@ -6,7 +6,7 @@
 --   line_at     all fields of a body
 --   record_line   .. of a record, by its kind
 -- Assumes nothing.
-use Rattle.std.specs.Prelude.{◌≡◌, Bool, true, false, cond, ◌&&◌, List, [], ◌∷◌, ℕ, zero, suc, ◌+◌, ◌-◌, ◌≤◌, eqb, leb, ltb, length, get_or, take, drop}
+use Rattle.std.specs.Prelude.{◌≡◌, Bool, true, false, cond, ◌&&◌, List, [], ◌∷◌, ℕ, zero, suc, ◌+◌, ◌-◌, ◌≤◌, eqb, leb, ltb, length, get_or, take, drop, Option, Some, None}
 use Prim.Native.Char.{code}
 use Rattle.prelude.specs.Choice.{◌unless◌then◌}
 use Rattle.numbers.specs.declared.Order.{Order}
@@ -14,8 +14,6 @@ use Rattle.numbers.specs.Numbers.{number}
 use Rattle.kinds.specs.Kinds.{kind_of}
 use Rattle.frames.specs.Frames.{rec_typ, rec_sub, body}
 use Rattle.line_layouts.specs.declared.Tag.{Tag}
-use Rattle.line_layouts.specs.declared.Tagging.{Tagging}
-use Rattle.line_layouts.specs.declared.Tagging.TheVariants.{Known, Other}
 use Rattle.line_layouts.specs.declared.Form.{Form}
 use Rattle.line_layouts.specs.declared.Form.TheVariants.{U1, U2, U4, Time, C1, Cn}
 use Rattle.line_layouts.specs.declared.Flag.{Flag}
@@ -28,8 +26,6 @@ use Rattle.line_layouts.specs.Columns.{columns, width}
 use Rattle.line_layouts.specs.Entries.{Entry, entry_of, is_missing, padded, Within}
 use Rattle.line_layouts.specs.Judging.{no_line}
 use Rattle.line_layouts.specs.Fitting.{is_number, is_beside, is_flag, is_letter}
-use Rattle.line_records.specs.declared.Step.{Step}
-use Rattle.line_records.specs.declared.Step.TheVariants as step
 use Rattle.line_records.specs.Walks.{Fit, Fits, Misfit, put, size, walked}
 use Rattle.line_records.specs.Records.{count_tag}
 
@@ -84,22 +80,22 @@ step_said ends c s at = cond (ltb at (length s)) (said_of (field_at ends c s at)
 abbrev pub step_next : Column → List ℕ → ℕ → ℕ
 step_next c s at = cond (ltb at (length s)) (at + size c.0 (drop at s)) at
 
-abbrev pub Stepped : Order → Column → List ℕ → ℕ → Step → Type 0
-Stepped ends c s at step.Misfit = field_at ends c s at ≡ Misfit
-Stepped ends c s at (step.Says f next) =
+abbrev pub Stepped : Order → Column → List ℕ → ℕ → (Option (Said × ℕ)) → Type 0
+Stepped ends c s at None = field_at ends c s at ≡ Misfit
+Stepped ends c s at (Some (f, next)) =
     (field_at ends c s at ≡ Fits f) × (next ≡ at + size c.0 (drop at s)) × (next ≤ length s)
 
 -- a letter or a name is the same in either order, for each of their columns
-abbrev pub LetterStepped : List ℕ → ℕ → Step → Type 0
+abbrev pub LetterStepped : List ℕ → ℕ → (Option (Said × ℕ)) → Type 0
 LetterStepped s at r = (ends : Order) (c : Column) → c.0 ≡ C1 → Stepped ends c s at r
 
-abbrev pub NameStepped : ℕ → List ℕ → ℕ → Step → Type 0
+abbrev pub NameStepped : ℕ → List ℕ → ℕ → (Option (Said × ℕ)) → Type 0
 NameStepped most s at r = (ends : Order) (c : Column) → c.0 ≡ Cn → c.1 ≡ most → Stepped ends c s at r
 
 -- of the rest of a body of which k fields must still come
-abbrev pub Going : Order → Column → List ℕ → ℕ → ℕ → Step → Type 0
-Going ends c s k at step.Misfit = (cs : List Column) → walked k ends (c ∷ cs) (drop at s) ≡ Misfit
-Going ends c s k at (step.Says f next) =
+abbrev pub Going : Order → Column → List ℕ → ℕ → ℕ → (Option (Said × ℕ)) → Type 0
+Going ends c s k at None = (cs : List Column) → walked k ends (c ∷ cs) (drop at s) ≡ Misfit
+Going ends c s k at (Some (f, next)) =
     ((cs : List Column)
     → walked k ends (c ∷ cs) (drop at s) ≡ put (Fits (entry_of s f)) (walked (k - 1) ends cs (drop next s)))
     × (next ≤ length s)
@@ -126,9 +122,9 @@ fields_from ends (c ∷ cs) s at gone =
 unfoldable pub line_at : Order → Tag → List ℕ → Line
 line_at ends tag s = record { tag = tag; fields = padded (fields_from ends (columns tag) s 0 true) }
 
-abbrev pub line_tagged : Order → Tagging → List ℕ → Line
-line_tagged ends (Known tag) s = line_at ends tag s
-line_tagged ends Other s = no_line
+abbrev pub line_tagged : Order → (Option Tag) → List ℕ → Line
+line_tagged ends (Some tag) s = line_at ends tag s
+line_tagged ends None s = no_line
 
 -- text is told by places in the body
 unfoldable pub record_line : Order → List ℕ → Line

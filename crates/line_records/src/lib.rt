@@ -11,36 +11,29 @@ ghost use Rattle.line_records.specs.Laws.{JudgePromise};
 use answers::Answer;
 use kinds::Kind;
 use line_layouts::judging::refused_line;
-use line_layouts::{Judged, Said, Tag, Tagging};
+use line_layouts::{Judged, Said, Tag};
 use numbers::Order;
 
-// What a field says, and where the next one begins.
-#[derive(Clone, Copy)]
-pub enum Step {
-    Says(Said, usize),
-    Misfit,
-}
-
-fn count_tag(kind: Kind) -> Tagging
+fn count_tag(kind: Kind) -> Option<Tag>
     ensures { result ≡ count_tag kind }
 {
     match kind {
-        Kind::Pcr => Tagging::Known(Tag::Pcr),
-        Kind::Hbr => Tagging::Known(Tag::Hbr),
-        Kind::Sbr => Tagging::Known(Tag::Sbr),
-        Kind::Wir => Tagging::Known(Tag::Wir),
-        Kind::Wrr => Tagging::Known(Tag::Wrr),
-        Kind::Far => Tagging::Other,
-        Kind::Atr => Tagging::Other,
-        Kind::Mir => Tagging::Other,
-        Kind::Mrr => Tagging::Other,
-        Kind::Rdr => Tagging::Other,
-        Kind::Sdr => Tagging::Other,
-        Kind::Pir => Tagging::Other,
-        Kind::Prr => Tagging::Other,
-        Kind::Remaining(_) => Tagging::Other,
-        Kind::Custom => Tagging::Other,
-        Kind::Unknown => Tagging::Other,
+        Kind::Pcr => Some(Tag::Pcr),
+        Kind::Hbr => Some(Tag::Hbr),
+        Kind::Sbr => Some(Tag::Sbr),
+        Kind::Wir => Some(Tag::Wir),
+        Kind::Wrr => Some(Tag::Wrr),
+        Kind::Far => None,
+        Kind::Atr => None,
+        Kind::Mir => None,
+        Kind::Mrr => None,
+        Kind::Rdr => None,
+        Kind::Sdr => None,
+        Kind::Pir => None,
+        Kind::Prr => None,
+        Kind::Remaining(_) => None,
+        Kind::Custom => None,
+        Kind::Unknown => None,
     }
 }
 
@@ -52,7 +45,7 @@ pub fn judge_record(order: Order, record: &[u8]) -> Judged
         return refused_line(Answer::NotOneRecord);
     }
     match count_tag(kinds::kind_of(record[2], record[3])) {
-        Tagging::Known(tag) => walking::walk(order, tag, &record[4..]),
-        Tagging::Other => refused_line(Answer::UnknownKind),
+        Some(tag) => walking::walk(order, tag, &record[4..]),
+        None => refused_line(Answer::UnknownKind),
     }
 }

@@ -9,7 +9,6 @@ ghost use Rattle.line_records.specs.Records.{body_means};
 ghost use Rattle.line_records.specs.Places.{number_in, hidden_said, Stepped, LetterStepped, NameStepped, Going};
 ghost use Rattle.line_records.specs.Places.{line_at};
 
-use super::Step;
 use answers::Answer;
 use line_layouts::columns::{bar_of, column_at, column_count, width_of};
 use line_layouts::forms::{is_beside, is_name, is_number, is_own, missing_value};
@@ -59,63 +58,63 @@ fn is_flag(column: Column, n: u32) -> bool
     }
 }
 
-fn number_at(order: Order, column: Column, s: &[u8], at: usize) -> Step
+fn number_at(order: Order, column: Column, s: &[u8], at: usize) -> Option<(Said, usize)>
     requires { (at ≤ length s.now) × (is_number column.0 ≡ true) }
     ensures { Stepped order column s.now at result }
 {
     let form = column.0;
     let w = width_of(form);
     if s.len() - at < w {
-        return Step::Misfit;
+        return None;
     }
     let n = number_in(order, form, s, at);
     if is_flag(column, n) {
-        return Step::Says(Said::Missing, at + w);
+        return Some((Said::Missing, at + w));
     }
     if n <= column.1 {
-        Step::Says(Said::Number(n), at + w)
+        Some((Said::Number(n), at + w))
     } else {
-        Step::Misfit
+        None
     }
 }
 
 // P/F, one byte.
-fn letter_at(s: &[u8], at: usize) -> Step
+fn letter_at(s: &[u8], at: usize) -> Option<(Said, usize)>
     requires { at < length s.now }
     ensures { LetterStepped s.now at result }
 {
     let b = s[at];
     if b == b' ' {
-        return Step::Says(Said::Missing, at + 1);
+        return Some((Said::Missing, at + 1));
     }
     if b == b'P' {
-        return Step::Says(Said::Text(Name { at, len: 1 }), at + 1);
+        return Some((Said::Text(Name { at, len: 1 }), at + 1));
     }
     if b == b'F' {
-        return Step::Says(Said::Text(Name { at, len: 1 }), at + 1);
+        return Some((Said::Text(Name { at, len: 1 }), at + 1));
     }
-    Step::Misfit
+    None
 }
 
 // The name whose count byte stands at a place.
-fn name_at(s: &[u8], at: usize, most: usize) -> Step
+fn name_at(s: &[u8], at: usize, most: usize) -> Option<(Said, usize)>
     requires { at < length s.now }
     ensures { NameStepped most s.now at result }
 {
     let n = wide(s[at]);
     if n >= s.len() - at {
-        return Step::Misfit;
+        return None;
     }
     if n == 0 {
-        return Step::Says(Said::Missing, at + 1);
+        return Some((Said::Missing, at + 1));
     }
     if n > most {
-        return Step::Misfit;
+        return None;
     }
-    Step::Says(Said::Text(Name { at: at + 1, len: n }), at + 1 + n)
+    Some((Said::Text(Name { at: at + 1, len: n }), at + 1 + n))
 }
 
-fn field_at(order: Order, column: Column, s: &[u8], at: usize) -> Step
+fn field_at(order: Order, column: Column, s: &[u8], at: usize) -> Option<(Said, usize)>
     requires { at < length s.now }
     ensures { Stepped order column s.now at result }
 {
@@ -130,7 +129,14 @@ fn field_at(order: Order, column: Column, s: &[u8], at: usize) -> Step
 }
 
 // The field at a place, where the body may have stopped: the first `bar` fields must come, and this is number j.
-fn step_at(order: Order, column: Column, s: &[u8], at: usize, j: usize, bar: usize) -> Step
+fn step_at(
+    order: Order,
+    column: Column,
+    s: &[u8],
+    at: usize,
+    j: usize,
+    bar: usize,
+) -> Option<(Said, usize)>
     requires { at ≤ length s.now }
     ensures { Going order column s.now (bar - j) at result }
 {
@@ -138,9 +144,9 @@ fn step_at(order: Order, column: Column, s: &[u8], at: usize, j: usize, bar: usi
         return field_at(order, column, s, at);
     }
     if j < bar {
-        return Step::Misfit;
+        return None;
     }
-    Step::Says(Said::Missing, at)
+    Some((Said::Missing, at))
 }
 
 // A site is missing with its head, whatever stands there.
@@ -172,7 +178,7 @@ pub fn walk(order: Order, tag: Tag, s: &[u8]) -> Judged
     while j < count {
         let column = column_at(tag, j);
         let step = step_at(order, column, s, at, j, bar);
-        let Step::Says(found, next) = step else {
+        let Some((found, next)) = step else {
             return refused_line(Answer::BodyMisfit);
         };
         let said = hide(column, gone, found);

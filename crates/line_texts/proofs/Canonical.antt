@@ -1,5 +1,6 @@
 -- The statements of specs/Laws.antt, proved.
 -- Assumes nothing.
+use Rattle.std.specs.Prelude.{Option, Some, None}
 use mathlib.Core.Path.{◌≡◌, refl, ap, sym, subst, ◌∙◌}
 use mathlib.Core.Bool.{Bool, true, false, cond, not, ◌&&◌, ◌||◌}
 use mathlib.Core.List.{List, [], ◌∷◌, ◌++◌, append_assoc, append-nil}
@@ -14,8 +15,6 @@ use Rattle.prelude.specs.Each.{each}
 use Rattle.prelude.proofs.Never.{false_true}
 use Rattle.prelude.proofs.Both.{both_left, both_right}
 use Rattle.prelude.proofs.Each.{each_append, each_take, each_at}
-use Rattle.digits.specs.declared.Numeral.{Numeral}
-use Rattle.digits.specs.declared.Numeral.TheVariants.{Value, NotANumber}
 use Rattle.digits.specs.Digits.{digits, is_digit}
 use Rattle.digits.proofs.Laws.{digits_digits, digits_some, numeral_digits}
 use Rattle.dates.specs.Dates.{date_text, date_byte}
@@ -37,8 +36,6 @@ use Rattle.line_layouts.proofs.Arranging.{length_arranged, arranged_at, arranged
 use Rattle.line_layouts.proofs.Tables.{sound, turned, Sane, sane, form_sound_lem, rest_sound, bar_separates}
 use Rattle.line_layouts.proofs.Tables.{Apart, apart}
 use Rattle.line_layouts.specs.Judging.{Says}
-use Rattle.line_layouts.specs.declared.Tagging.{Tagging}
-use Rattle.line_layouts.specs.declared.Tagging.TheVariants.{Known, Other}
 use Rattle.line_texts.specs.Pieces.{onto, split, gathered, numeral_in, number_fits, number_in}
 use Rattle.line_texts.specs.Pieces.{value_in, piece_fits, entry_in, fields_fit, entries_in}
 use Rattle.line_texts.specs.Texts.{is_break, content, unbroken, tag_of, fields_mean}
@@ -107,7 +104,7 @@ letter_allowed sep ok b e = go (eqb b (code "P")) refl (eqb b (code "F")) refl
 record Spoken (sep : ℕ) (form : Form) (n : ℕ) : Type 0 where
   clean : each (plain sep) (number_text form n) ≡ true
   some : 1 ≤ length (number_text form n)
-  says : numeral_in form (number_text form n) ≡ Value n
+  says : numeral_in form (number_text form n) ≡ Some n
 
 spoken : (sep : ℕ) → Apart sep → (form : Form) (n : ℕ) → n < 2 ^ 32 → (is_time form ≡ true → 1 ≤ n) → Spoken sep form n
 spoken sep ok form n small least = go (is_time form) refl
@@ -127,7 +124,7 @@ spoken sep ok form n small least = go (is_time form) refl
         }
 
 module _ (sep : ℕ) (c : Column) (ok : Sane c) (range : Ranged c) where
-  number_reads : (n : ℕ) (s : List ℕ) → 1 ≤ length s → numeral_in c.0 s ≡ Value n → is_number c.0 ≡ true
+  number_reads : (n : ℕ) (s : List ℕ) → 1 ≤ length s → numeral_in c.0 s ≡ Some n → is_number c.0 ≡ true
       → leb n c.1 ≡ true → (piece_fits sep c s ≡ true) × (entry_in c s ≡ Number n)
   unfolding piece_fits entry_in
   number_reads n [] some value f g = absurd (omega arith)
@@ -451,7 +448,7 @@ length_tell sep (c ∷ cs) [] e = false_true e
 length_tell sep (c ∷ cs) (x ∷ es) e =
     ap suc (length_tell sep cs es (both_right (tells sep c x) (all_tell sep cs es) e))
 
-tagged : (tag : Tag) (s : List ℕ) → tag_of (tag_text tag ++ s) ≡ Known tag
+tagged : (tag : Tag) (s : List ℕ) → tag_of (tag_text tag ++ s) ≡ Some tag
 unfolding tag_of
 tagged Pcr s = refl
 tagged Hbr s = refl
@@ -547,12 +544,12 @@ canonical_once sep separates m m' fit fit' e =
 -- ---- what a line means can be told
 
 module _ (sep : ℕ) (ok : Apart sep) (c : Column) (table : Sane c) (range : Ranged c) where
-  number_tells : (p : List ℕ) (x : Numeral) → numeral_in c.0 p ≡ x → is_number c.0 ≡ true
+  number_tells : (p : List ℕ) (x : Option ℕ) → numeral_in c.0 p ≡ x → is_number c.0 ≡ true
       → number_fits c.1 x ≡ true → tells sep c (number_in x) ≡ true
-  number_tells p (Value n) is f g =
+  number_tells p (Some n) is f g =
       let other = range.unflagged n f (numeral_least c.0 p n is) (leb-true n c.1 g) in
       rw (f, g, other)
-  number_tells p NotANumber is f g = false_true g
+  number_tells p None is f g = false_true g
 
   letters_allowed : (b : ℕ) (bs : List ℕ) → length (b ∷ bs) ≤ 1 → letter_fits (b ∷ bs) ≡ true
       → each (allowed sep) (b ∷ bs) ≡ true
@@ -605,9 +602,9 @@ module _ (sep : ℕ) (ok : Apart sep) where
       let is = mean_is sep tag ps m e in
       rw (← is.2) (fields_tell sep ok (bar tag) (columns tag) (gathered tag ps) (sound tag) is.0, is.1)
 
-  tagged_said : (t : Tagging) (s : List ℕ) (m : Meaning) → tagged_means sep t s ≡ Says m → TellingBy sep m
-  tagged_said (Known tag) s m e = fields_said tag (split sep (drop 4 s)) m e
-  tagged_said Other s m e = not_said m e
+  tagged_said : (t : Option Tag) (s : List ℕ) (m : Meaning) → tagged_means sep t s ≡ Says m → TellingBy sep m
+  tagged_said (Some tag) s m e = fields_said tag (split sep (drop 4 s)) m e
+  tagged_said None s m e = not_said m e
 
 pub read_tells : ReadTells
 unfolding content_means

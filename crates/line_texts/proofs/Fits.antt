@@ -1,5 +1,6 @@
 -- Laws of one piece of text.
 -- Assumes nothing.
+use Rattle.std.specs.Prelude.{Option, Some, None}
 use mathlib.Core.Path.{◌≡◌, refl, ap, sym, ◌∙◌}
 use mathlib.Core.Bool.{Bool, true, false, cond, not, ◌&&◌}
 use mathlib.Core.List.{List, [], ◌∷◌}
@@ -14,10 +15,6 @@ use lib.Seq.{take_all, take-take}
 use Rattle.prelude.specs.Each.{each}
 use Rattle.prelude.proofs.Never.{false_true}
 use Rattle.prelude.proofs.Both.{both_right}
-use Rattle.digits.specs.declared.Numeral.{Numeral}
-use Rattle.digits.specs.declared.Numeral.TheVariants.{Value, NotANumber}
-use Rattle.dates.specs.declared.Dated.{Dated}
-use Rattle.dates.specs.declared.Dated.TheVariants.{Time, NotADate}
 use Rattle.dates.specs.Reading.{date_of}
 use Rattle.dates.proofs.Laws.{date_only}
 use Rattle.output.specs.Placed.{part}
@@ -86,18 +83,18 @@ unfolding said_in
 said_value c at [] h = absurd (h refl)
 said_value c at (b ∷ bs) h = refl
 
-number_holds : (s : List ℕ) (n : Numeral) → Holds s (number_said n) (number_in n)
-number_holds s (Value n) = record { says = refl; there = tt }
-number_holds s NotANumber = record { says = refl; there = tt }
+number_holds : (s : List ℕ) (n : Option ℕ) → Holds s (number_said n) (number_in n)
+number_holds s (Some n) = record { says = refl; there = tt }
+number_holds s None = record { says = refl; there = tt }
 
 -- ---- numbers that say something, and those that say that a field is missing
 
 -- a time is read from a date, which 0 has not
-dated_is : (d : Dated) (n : ℕ) → dated_numeral d ≡ Value n → d ≡ Time n
-dated_is (Time t) n e = let same : t ≡ n = cc in ap Time same
-dated_is NotADate n e = let no : ◌≡◌ {A = ℕ} 0 1 = cc in absurd (omega arith)
+dated_is : (d : Option ℕ) (n : ℕ) → dated_numeral d ≡ Some n → d ≡ Some n
+dated_is (Some t) n e = let same : t ≡ n = cc in ap Some same
+dated_is None n e = let no : ◌≡◌ {A = ℕ} 0 1 = cc in absurd (omega arith)
 
-pub numeral_least : (form : Form) (s : List ℕ) (n : ℕ) → numeral_in form s ≡ Value n → is_time form ≡ true → 1 ≤ n
+pub numeral_least : (form : Form) (s : List ℕ) (n : ℕ) → numeral_in form s ≡ Some n → is_time form ≡ true → 1 ≤ n
 numeral_least form s n e t = (date_only s n (dated_is (date_of s) n (rw t at e))).0
 
 -- a number in range is none that says so, where a time is not 0
@@ -151,7 +148,7 @@ ranged c ok =
       unflagged = form_unflagged c.0 c.1 c.3 ok;
     }
 
-pub number_small : (most n : ℕ) (x : Numeral) → x ≡ Value n → number_fits most x ≡ true → n ≤ most
+pub number_small : (most n : ℕ) (x : Option ℕ) → x ≡ Some n → number_fits most x ≡ true → n ≤ most
 number_small most n x e f = leb-true n most (rw e at f)
 
 -- text that is kept: no more than the column says

@@ -1,5 +1,6 @@
 -- Laws of a line as a whole: its ending, its tag, fields beside another, and what this code holds of it.
 -- Assumes nothing.
+use Rattle.std.specs.Prelude.{Option, Some, None}
 use mathlib.Core.Path.{◌≡◌, refl, ap, sym, subst, ◌∙◌}
 use mathlib.Core.Bool.{Bool, true, false, not, ◌&&◌, ◌||◌}
 use mathlib.Core.List.{List, [], ◌∷◌}
@@ -15,8 +16,6 @@ use Rattle.prelude.proofs.Never.{false_true}
 use Rattle.prelude.proofs.Both.{both_right}
 use Rattle.line_layouts.specs.declared.Tag.{Tag}
 use Rattle.line_layouts.specs.declared.Tag.TheVariants.{Pcr, Hbr, Sbr, Wir, Wrr}
-use Rattle.line_layouts.specs.declared.Tagging.{Tagging}
-use Rattle.line_layouts.specs.declared.Tagging.TheVariants.{Known, Other}
 use Rattle.line_layouts.specs.declared.Said.{Said}
 use Rattle.line_layouts.specs.declared.Said.TheVariants as said
 use Rattle.line_layouts.specs.declared.Line.{Line}
@@ -135,13 +134,13 @@ unfolding tag_of
 tags_all s = record { is = refl }
 
 module _ {s : List ℕ} {tag : Tag} {tags : List Tag} (so_far : Untried s (tag ∷ tags)) where
-  pub tag_hit : starts (tag_text tag) s ≡ true → Known tag ≡ tag_of s
+  pub tag_hit : starts (tag_text tag) s ≡ true → Some tag ≡ tag_of s
   tag_hit e = sym (so_far.is ∙ rw e)
 
   pub tag_other : starts (tag_text tag) s ≡ false → Untried s tags
   tag_other e = record { is = so_far.is ∙ rw e }
 
-pub tag_none : {s : List ℕ} → Untried s [] → Other ≡ tag_of s
+pub tag_none : {s : List ℕ} → Untried s [] → None ≡ tag_of s
 tag_none so_far = sym so_far.is
 
 -- ---- a field beside another, wherever it stands
@@ -288,26 +287,26 @@ length_tag Wir = refl
 length_tag Wrr = refl
 
 module _ (s : List ℕ) (tag : Tag) where
-  among_four : (tags : List Tag) → tag_among tags s ≡ Known tag → 4 ≤ length s
+  among_four : (tags : List Tag) → tag_among tags s ≡ Some tag → 4 ≤ length s
   among_four [] e = let no : ◌≡◌ {A = ℕ} 0 1 = cc in absurd (omega arith)
   among_four (t ∷ tags) e = go (among_four tags) (starts (tag_text t) s) refl
     where
-      go : (tag_among tags s ≡ Known tag → 4 ≤ length s) → (u : Bool) → starts (tag_text t) s ≡ u → 4 ≤ length s
+      go : (tag_among tags s ≡ Some tag → 4 ≤ length s) → (u : Bool) → starts (tag_text t) s ≡ u → 4 ≤ length s
       go later true f = omega (arith, starts_four (tag_text t) s f, length_tag t)
       go later false f = later (rw f at e)
 
-  pub tag_four : tag_of s ≡ Known tag → 4 ≤ length s
+  pub tag_four : tag_of s ≡ Some tag → 4 ≤ length s
   tag_four e = let all = tags_all s in among_four (Pcr ∷ Hbr ∷ Sbr ∷ Wir ∷ Wrr ∷ []) (sym all.is ∙ e)
 
 -- ---- what this code holds of it
 
 module _ (sep : ℕ) (s : List ℕ) where
-  tagged_held : (t : Tagging) → tag_of s ≡ t → (m : Meaning) → tagged_means sep t s ≡ Says m
+  tagged_held : (t : Option Tag) → tag_of s ≡ t → (m : Meaning) → tagged_means sep t s ≡ Says m
       → (meaning_of s (line_tagged sep s t) ≡ m) × AllWithin s (line_tagged sep s t)
-  tagged_held (Known tag) is m e =
+  tagged_held (Some tag) is m e =
       let long = tag_four s tag is in
       (line_means sep s tag long ∙ (mean_is sep tag (split sep (drop 4 s)) m e).2, line_within sep s tag long)
-  tagged_held Other is m e = not_said m e
+  tagged_held None is m e = not_said m e
 
   -- where a content means something, the line that is held says it, by bytes that are there
   content_held_lem : (m : Meaning) → content_means sep s ≡ Says m

@@ -7,13 +7,9 @@
 --   entry_in     what such a piece says
 --   fields_fit, entries_in   both of all columns
 -- Assumes nothing.
-use Rattle.std.specs.Prelude.{Bool, true, false, cond, not, ◌&&◌, List, [], ◌∷◌, ℕ, eqb, leb, take}
+use Rattle.std.specs.Prelude.{Bool, true, false, cond, not, ◌&&◌, List, [], ◌∷◌, ℕ, eqb, leb, take, Option, Some, None}
 use Rattle.prelude.specs.Each.{each}
-use Rattle.digits.specs.declared.Numeral.{Numeral}
-use Rattle.digits.specs.declared.Numeral.TheVariants.{Value, NotANumber}
 use Rattle.digits.specs.Digits.{numeral}
-use Rattle.dates.specs.declared.Dated.{Dated}
-use Rattle.dates.specs.declared.Dated.TheVariants.{Time, NotADate}
 use Rattle.dates.specs.Reading.{date_of}
 use Rattle.line_layouts.specs.declared.Tag.{Tag}
 use Rattle.line_layouts.specs.declared.Form.{Form}
@@ -42,22 +38,22 @@ gathered tag ps = arranged [] (back tag) ps
 -- ---- the rules of one piece
 
 -- #103: times 1 to 4,294,967,295 have dates
-abbrev pub dated_numeral : Dated → Numeral
-dated_numeral (Time t) = Value t
-dated_numeral NotADate = NotANumber
+abbrev pub dated_numeral : (Option ℕ) → Option ℕ
+dated_numeral (Some t) = Some t
+dated_numeral None = None
 
 -- numbers are one to ten digits, leading zeros allowed; #103: a time is a date, exactly as one is written
-abbrev pub numeral_in : Form → List ℕ → Numeral
+abbrev pub numeral_in : Form → List ℕ → Option ℕ
 numeral_in form p = cond (is_time form) (dated_numeral (date_of p)) (numeral p)
 
 -- in range
-abbrev pub number_fits : ℕ → Numeral → Bool
-number_fits most (Value n) = leb n most
-number_fits most NotANumber = false
+abbrev pub number_fits : ℕ → (Option ℕ) → Bool
+number_fits most (Some n) = leb n most
+number_fits most None = false
 
-abbrev pub number_in : Numeral → Entry
-number_in (Value n) = Number n
-number_in NotANumber = Missing
+abbrev pub number_in : (Option ℕ) → Entry
+number_in (Some n) = Number n
+number_in None = Missing
 
 -- of a name every byte, cut ones too, must be allowed; P/F counts by its first character
 abbrev pub value_fits : ℕ → Column → List ℕ → Bool

@@ -8,14 +8,10 @@
 --   content_held   .. or the refusal
 --   Ends, Next, CutAt   what a function that cuts promises
 -- Assumes nothing.
-use Rattle.std.specs.Prelude.{◌≡◌, Bool, cond, not, ◌||◌, List, [], ◌∷◌, ℕ, ◌+◌, ◌-◌, ◌≤◌, ◌<◌, min, leb, ltb, length, get_or, drop}
-use Rattle.digits.specs.declared.Numeral.{Numeral}
-use Rattle.digits.specs.declared.Numeral.TheVariants.{Value, NotANumber}
+use Rattle.std.specs.Prelude.{◌≡◌, Bool, cond, not, ◌||◌, List, [], ◌∷◌, ℕ, ◌+◌, ◌-◌, ◌≤◌, ◌<◌, min, leb, ltb, length, get_or, drop, Option, Some, None}
 use Rattle.output.specs.Placed.{part}
 use Rattle.values.specs.declared.Name.{Name}
 use Rattle.line_layouts.specs.declared.Tag.{Tag}
-use Rattle.line_layouts.specs.declared.Tagging.{Tagging}
-use Rattle.line_layouts.specs.declared.Tagging.TheVariants.{Known, Other}
 use Rattle.line_layouts.specs.declared.Column.{Column}
 use Rattle.line_layouts.specs.declared.Said.{Said}
 use Rattle.line_layouts.specs.declared.Said.TheVariants as said
@@ -52,9 +48,9 @@ places_in sep s tag = arranged no_place (back tag) (places_of sep s)
 
 -- ---- what they say
 
-abbrev pub number_said : Numeral → Said
-number_said (Value n) = said.Number n
-number_said NotANumber = said.Missing
+abbrev pub number_said : (Option ℕ) → Said
+number_said (Some n) = said.Number n
+number_said None = said.Missing
 
 abbrev pub text_said : ℕ → ℕ → ℕ → Said
 text_said at len most = said.Text (record { at = at; len = min len most })
@@ -72,9 +68,9 @@ fields_in s (c ∷ cs) (n ∷ ns) = record { said = said_in c n.at (named s n) }
 unfoldable pub line_in : ℕ → List ℕ → Tag → Line
 line_in sep s tag = record { tag = tag; fields = padded (fields_in s (columns tag) (places_in sep s tag)) }
 
-abbrev pub line_tagged : ℕ → List ℕ → Tagging → Line
-line_tagged sep s (Known tag) = line_in sep s tag
-line_tagged sep s Other = no_line
+abbrev pub line_tagged : ℕ → List ℕ → (Option Tag) → Line
+line_tagged sep s (Some tag) = line_in sep s tag
+line_tagged sep s None = no_line
 
 abbrev pub line_of : ℕ → List ℕ → Line
 line_of sep s = line_tagged sep s (tag_of s)

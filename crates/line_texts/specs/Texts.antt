@@ -6,7 +6,7 @@
 --   line_meaning_by what a line means, or that it is none: 18; the first argument is the separator
 --   line_meaning   .. where it is `|`
 -- Assumes nothing.
-use Rattle.std.specs.Prelude.{◌≡◌, Bool, true, false, cond, not, ◌&&◌, ◌||◌, List, [], ◌∷◌, ℕ, ◌-◌, eqb, leb, length, get_or, take, drop}
+use Rattle.std.specs.Prelude.{◌≡◌, Bool, true, false, cond, not, ◌&&◌, ◌||◌, List, [], ◌∷◌, ℕ, ◌-◌, eqb, leb, length, get_or, take, drop, Option, Some, None}
 use Rattle.prelude.specs.Choice.{◌unless◌then◌}
 use Rattle.prelude.specs.Each.{each}
 use Rattle.answers.specs.declared.Answer.TheVariants.{NotACountLine}
@@ -17,8 +17,6 @@ use Rattle.line_layouts.specs.Columns.{separator, line_feed, carriage_return, ta
 use Rattle.line_layouts.specs.Entries.{Missing, entries_of}
 use Rattle.line_layouts.specs.Fitting.{sits}
 use Rattle.line_layouts.specs.Judging.{Judging, Says, Faulty}
-use Rattle.line_layouts.specs.declared.Tagging.{Tagging}
-use Rattle.line_layouts.specs.declared.Tagging.TheVariants.{Known, Other}
 use Rattle.line_texts.specs.Pieces.{split, gathered, fields_fit, entries_in}
 
 abbrev pub is_break : ℕ → Bool
@@ -45,12 +43,12 @@ starts [] s = true
 starts (t ∷ ts) [] = false
 starts (t ∷ ts) (b ∷ bs) = eqb b t && starts ts bs
 
-abbrev pub tag_among : List Tag → List ℕ → Tagging
-tag_among [] s = Other
-tag_among (tag ∷ tags) s = cond (starts (tag_text tag) s) (Known tag) (tag_among tags s)
+abbrev pub tag_among : List Tag → List ℕ → Option Tag
+tag_among [] s = None
+tag_among (tag ∷ tags) s = cond (starts (tag_text tag) s) (Some tag) (tag_among tags s)
 
 -- so a space at the start of the line, and any other text there, is 18
-unfoldable pub tag_of : List ℕ → Tagging
+unfoldable pub tag_of : List ℕ → Option Tag
 tag_of s = tag_among (Pcr ∷ Hbr ∷ Sbr ∷ Wir ∷ Wrr ∷ []) s
 
 abbrev pub not_aLine : Judging
@@ -64,9 +62,9 @@ fields_mean sep tag ps =
     not_aLine unless sits Missing (columns tag) (entries_in (columns tag) (gathered tag ps)) then
     Says (record { tag = tag; entries = entries_in (columns tag) (gathered tag ps) })
 
-abbrev pub tagged_means : ℕ → Tagging → List ℕ → Judging
-tagged_means sep (Known tag) s = fields_mean sep tag (split sep (drop 4 s))
-tagged_means sep Other s = not_aLine
+abbrev pub tagged_means : ℕ → (Option Tag) → List ℕ → Judging
+tagged_means sep (Some tag) s = fields_mean sep tag (split sep (drop 4 s))
+tagged_means sep None s = not_aLine
 
 unfoldable pub content_means : ℕ → List ℕ → Judging
 content_means sep s = not_aLine unless unbroken s then tagged_means sep (tag_of s) s

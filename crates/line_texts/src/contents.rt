@@ -13,7 +13,7 @@ use answers::Answer;
 use line_layouts::columns::{CARRIAGE_RETURN, LINE_FEED, column_at, column_count};
 use line_layouts::forms::is_beside;
 use line_layouts::judging::{is_missing, refused_line, said_at, said_line};
-use line_layouts::{Column, Judged, Line, Tag, Tagging};
+use line_layouts::{Column, Judged, Line, Tag};
 
 fn is_break(b: u8) -> bool
     ensures { result ≡ is_break b }
@@ -81,25 +81,25 @@ fn is_tag(s: &[u8], a: u8, b: u8, c: u8, d: u8) -> bool
     s[3] == d
 }
 
-fn tag_of(s: &[u8]) -> Tagging
+fn tag_of(s: &[u8]) -> Option<Tag>
     ensures { result ≡ tag_of s.now }
 {
     if is_tag(s, b'P', b'C', b'R', b':') {
-        return Tagging::Known(Tag::Pcr);
+        return Some(Tag::Pcr);
     }
     if is_tag(s, b'H', b'B', b'R', b':') {
-        return Tagging::Known(Tag::Hbr);
+        return Some(Tag::Hbr);
     }
     if is_tag(s, b'S', b'B', b'R', b':') {
-        return Tagging::Known(Tag::Sbr);
+        return Some(Tag::Sbr);
     }
     if is_tag(s, b'W', b'I', b'R', b':') {
-        return Tagging::Known(Tag::Wir);
+        return Some(Tag::Wir);
     }
     if is_tag(s, b'W', b'R', b'R', b':') {
-        return Tagging::Known(Tag::Wrr);
+        return Some(Tag::Wrr);
     }
-    Tagging::Other
+    None
 }
 
 // A field beside another is missing exactly where that one is.
@@ -159,7 +159,7 @@ pub fn judge_content(s: &[u8], sep: u8) -> Judged
         return refused_line(Answer::NotACountLine);
     }
     match tag_of(s) {
-        Tagging::Known(tag) => judge_fields(s, sep, tag),
-        Tagging::Other => refused_line(Answer::NotACountLine),
+        Some(tag) => judge_fields(s, sep, tag),
+        None => refused_line(Answer::NotACountLine),
     }
 }

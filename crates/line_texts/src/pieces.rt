@@ -9,25 +9,23 @@ ghost use Rattle.line_texts.specs.Pieces.{number_fits, value_fits, piece_fits, f
 ghost use Rattle.line_texts.specs.Places.{no_place, number_said, said_in, line_in, Ends, Next, CutAt};
 
 use super::{Cut, Piece};
-use dates::Dated;
-use digits::Numeral;
 use line_layouts::columns::{back_at, column_at, column_count};
 use line_layouts::forms::{is_name, is_number, is_time};
 use line_layouts::names::part_allowed;
 use line_layouts::{Column, Field, Form, Line, Said, Tag};
 use values::Name;
 
-fn date_in(piece: &[u8]) -> Numeral
+fn date_in(piece: &[u8]) -> Option<u64>
     ensures { result ≡ dated_numeral (date_of piece.now) }
 {
     match dates::read_date(piece) {
-        Dated::Time(t) => Numeral::Value(t as u64),
-        Dated::NotADate => Numeral::NotANumber,
+        Some(t) => Some(t as u64),
+        None => None,
     }
 }
 
 // The number that a piece says: a date's seconds, or what its digits are worth.
-fn numeral_in(form: Form, piece: &[u8]) -> Numeral
+fn numeral_in(form: Form, piece: &[u8]) -> Option<u64>
     ensures { result ≡ numeral_in form piece.now }
 {
     if is_time(form) {
@@ -40,8 +38,8 @@ fn number_fits(form: Form, piece: &[u8], most: u32) -> bool
     ensures { result ≡ number_fits most (numeral_in form piece.now) }
 {
     match numeral_in(form, piece) {
-        Numeral::Value(n) => n <= most as u64,
-        Numeral::NotANumber => false,
+        Some(n) => n <= most as u64,
+        None => false,
     }
 }
 
@@ -191,8 +189,8 @@ fn number_said(form: Form, text: &[u8], most: u32) -> Said
     ensures { result ≡ number_said (numeral_in form text.now) }
 {
     match numeral_in(form, text) {
-        Numeral::Value(n) => Said::Number(n as u32),
-        Numeral::NotANumber => Said::Missing,
+        Some(n) => Said::Number(n as u32),
+        None => Said::Missing,
     }
 }
 

@@ -1,5 +1,6 @@
 -- The statements of specs/Laws.antt, proved.
 -- Assumes nothing.
+use Rattle.std.specs.Prelude.{Result, Ok, Err}
 use mathlib.Core.Path.{◌≡◌, refl, ap, sym, ◌∙◌}
 use mathlib.Core.Bool.{Bool, true, false, cond, true≢false}
 use mathlib.Core.List.{List, ◌++◌}
@@ -9,8 +10,6 @@ use lib.ListN.{length, take, drop}
 use Rattle.prelude.proofs.Once.{equation}
 use Rattle.answers.specs.declared.Answer.{Answer}
 use Rattle.answers.specs.declared.Answer.TheVariants.{OutputTooShort}
-use Rattle.output.specs.declared.Written.{Written}
-use Rattle.output.specs.declared.Written.TheVariants as written
 use Rattle.output.specs.Placed.{Making, Makes, Refuses, Outcome, outcome, refused, placed_at, placed}
 use Rattle.lines.specs.Writing.{text_for, line_written}
 use Rattle.lines.specs.Reading.{record_for, line_read}
@@ -65,20 +64,20 @@ longest_record = bodies.longest_record
 
 -- ---- a refusal
 
-abbrev wrote : Written → Bool
-wrote (written.Bytes n) = true
-wrote (written.Refused a) = false
+abbrev wrote : (Result ℕ Answer) → Bool
+wrote (Ok n) = true
+wrote (Err a) = false
 
-placed_refused : (m : Making) (old : List ℕ) (at : ℕ) (a : Answer) → (placed m old at).answer ≡ written.Refused a
+placed_refused : (m : Making) (old : List ℕ) (at : ℕ) (a : Answer) → (placed m old at).answer ≡ Err a
     → (placed m old at).output ≡ old
 unfolding placed_at
 placed_refused (Refuses b) old at a e = refl
 placed_refused (Makes bytes) old at a e = go (leb (at + length bytes) (length old)) e
   where
     done : Outcome
-    done = outcome (written.Bytes (length bytes)) (take at old ++ (bytes ++ drop (at + length bytes) old))
+    done = outcome (Ok (length bytes)) (take at old ++ (bytes ++ drop (at + length bytes) old))
 
-    go : (b : Bool) → (cond b done (refused OutputTooShort old)).answer ≡ written.Refused a
+    go : (b : Bool) → (cond b done (refused OutputTooShort old)).answer ≡ Err a
         → (cond b done (refused OutputTooShort old)).output ≡ old
     go true f = absurd (true≢false (ap wrote f))
     go false f = refl

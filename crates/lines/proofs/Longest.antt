@@ -1,6 +1,7 @@
 -- A line as long as the longest of its tag: what is written of a meaning that fits has as many bytes as its text
 -- (specs/Laws.antt, LongestLine).
 -- Assumes nothing.
+use Rattle.std.specs.Prelude.{Some, Ok}
 use mathlib.Core.Path.{◌≡◌, refl, ap}
 use mathlib.Core.List.{List}
 use Prim.Native.Nat.{ℕ, ◌+◌, ◌≤◌}
@@ -8,13 +9,11 @@ use native.Mathlib.Omega.{arith}
 use borrow.Author.Tests.{le-leb}
 use lib.ListN.{length}
 use Rattle.numbers.specs.declared.Order.{Order}
-use Rattle.numbers.specs.declared.Ordering.TheVariants.{Known}
 use Rattle.numbers.specs.Orders.{order_of}
 use Rattle.digits.specs.Digits.{digits}
 use Rattle.months.specs.Months.{length_of, first_day, month_of}
 use Rattle.dates.specs.Dates.{letter, date_text}
 use Rattle.dates.specs.Dates as dates
-use Rattle.output.specs.declared.Written.TheVariants as written
 use Rattle.output.specs.Placed.{placed_at}
 use Rattle.line_layouts.specs.declared.Tag.{Tag}
 use Rattle.line_layouts.specs.declared.Tag.TheVariants.{Pcr, Hbr, Sbr, Wir, Wrr}
@@ -26,10 +25,10 @@ use Rattle.lines.specs.Writing.{line_written}
 use Rattle.lines.specs.Laws.{Writable, most_text, longest, LongestLine}
 use Rattle.lines.proofs.Made.{record_read}
 
-written_long : (cpu : ℕ) (order : Order) → order_of cpu ≡ Known order → (m : Meaning) → Fitting m
+written_long : (cpu : ℕ) (order : Order) → order_of cpu ≡ Some order → (m : Meaning) → Fitting m
     → Writable m → (n : ℕ) → length (text_of m) ≡ n
     → (old : List ℕ) (at : ℕ) → at + n ≤ length old
-    → (line_written cpu (record_of order m) old at).answer ≡ written.Bytes n
+    → (line_written cpu (record_of order m) old at).answer ≡ Ok n
 unfolding placed_at
 written_long cpu order is m fit ok n size old at room =
     rw (
@@ -39,7 +38,7 @@ written_long cpu order is m fit ok n size old at room =
       ok.1,
       le-leb (at + length (text_of m)) (length old) (omega (arith, size)),
     )
-    (ap written.Bytes size)
+    (ap Ok size)
 
 longest_fits : (tag : Tag) → Fitting (longest tag)
 unfolding longest sits

@@ -1,5 +1,6 @@
 -- The record made from a meaning that fits its columns means it: its header, and the walk over its body.
 -- Assumes nothing.
+use Rattle.std.specs.Prelude.{Some}
 use mathlib.Core.Path.{◌≡◌, refl, ap, sym, ◌∙◌}
 use mathlib.Core.Bool.{true}
 use mathlib.Core.List.{List, ◌∷◌, [], ◌++◌}
@@ -17,7 +18,6 @@ use Rattle.frames.specs.Frames.{rec_typ, rec_sub, body, is_record}
 use Rattle.frames.proofs.Laws.{record_framed}
 use Rattle.line_layouts.specs.declared.Tag.{Tag}
 use Rattle.line_layouts.specs.declared.Tag.TheVariants.{Pcr, Hbr, Sbr, Wir, Wrr}
-use Rattle.line_layouts.specs.declared.Tagging.TheVariants.{Known}
 use Rattle.line_layouts.specs.declared.Layout.TheVariants as layout
 use Rattle.line_layouts.specs.Columns.{type_of, sub_of, columns, bar}
 use Rattle.line_layouts.specs.Entries.{Meaning}
@@ -56,7 +56,7 @@ framed_body HighFirst typ sub b = refl
 framed_body LowFirst typ sub b = refl
 
 -- the kind of a line's record has that line
-tag_kind : (tag : Tag) → count_tag (kind_of (type_of tag) (sub_of tag)) ≡ Known tag
+tag_kind : (tag : Tag) → count_tag (kind_of (type_of tag) (sub_of tag)) ≡ Some tag
 tag_kind Pcr = ap count_tag (each_pair_its_kind 4 (omega arith))
 tag_kind Hbr = ap count_tag (each_pair_its_kind 5 (omega arith))
 tag_kind Sbr = ap count_tag (each_pair_its_kind 6 (omega arith))

@@ -1,5 +1,6 @@
 -- The statements of specs/Numbers.antt, proved: one law a check, the last one first.
 -- Assumes nothing.
+use Rattle.std.specs.Prelude.{Option, Some, None, Ok}
 use mathlib.Core.Path.{◌≡◌, refl, sym, subst}
 use mathlib.Core.Bool.{Bool, true, false, cond}
 use mathlib.Core.List.{List, [], ◌∷◌, ◌++◌}
@@ -13,8 +14,6 @@ use Rattle.prelude.specs.Each.{each}
 use Rattle.prelude.proofs.Checks.{choice_by}
 use Rattle.answers.specs.declared.Answer.TheVariants.{OutputTooShort, NameNotText, NoTime}
 use Rattle.numbers.specs.declared.Order.{Order}
-use Rattle.numbers.specs.declared.Ordering.{Ordering}
-use Rattle.numbers.specs.declared.Ordering.TheVariants as ordering
 use Rattle.numbers.specs.Orders.{order_of}
 use Rattle.numbers.specs.Laws.{Bytes}
 use Rattle.kinds.specs.declared.Kind.{Kind}
@@ -22,12 +21,9 @@ use Rattle.kinds.specs.declared.Kind.TheVariants as kind
 use Rattle.kinds.specs.Kinds.{kind_of}
 use Rattle.frames.specs.Frames.{header, rec_typ, rec_sub, body, is_record}
 use Rattle.bodies.specs.Bodies.{read_body, fitting}
-use Rattle.output.specs.declared.Written.TheVariants as written
 use Rattle.output.specs.Placed.{Makes, Refuses, Outcome, outcome, refused, placed_at, placed}
 use Rattle.line_layouts.specs.declared.Tag.{Tag}
 use Rattle.line_layouts.specs.declared.Tag.TheVariants as tag
-use Rattle.line_layouts.specs.declared.Tagging.{Tagging}
-use Rattle.line_layouts.specs.declared.Tagging.TheVariants.{Known, Other}
 use Rattle.line_layouts.specs.declared.Layout.TheVariants as layout
 use Rattle.line_layouts.specs.Columns.{separator, columns}
 use Rattle.line_layouts.specs.Entries.{Entry, Missing, Meaning}
@@ -57,7 +53,7 @@ unfolding placed_at
 placed_number bytes old at = go (leb (at + length bytes) (length old))
   where
     done : Outcome
-    done = outcome (written.Bytes (length bytes)) (take at old ++ (bytes ++ drop (at + length bytes) old))
+    done = outcome (Ok (length bytes)) (take at old ++ (bytes ++ drop (at + length bytes) old))
 
     go : (t : Bool) → written_number (cond t done (refused OutputTooShort old)).answer ≡ cond t 0 17
     go true = refl
@@ -65,11 +61,11 @@ placed_number bytes old at = go (leb (at + length bytes) (length old))
 
 -- ---- 4
 
-order_number : (number : Ordering → ℕ) (checks : Order → List (Check ℕ)) → number ordering.Unknown ≡ 4
-    → ((order : Order) → number (ordering.Known order) ≡ number_by (checks order))
-    → (o : Ordering) → number o ≡ number_by (order_first o checks)
-order_number number checks none told ordering.Unknown = none
-order_number number checks none told (ordering.Known order) = told order
+order_number : (number : (Option Order) → ℕ) (checks : Order → List (Check ℕ)) → number None ≡ 4
+    → ((order : Order) → number (Some order) ≡ number_by (checks order))
+    → (o : Option Order) → number o ≡ number_by (order_first o checks)
+order_number number checks none told None = none
+order_number number checks none told (Some order) = told order
 
 -- ---- writing: 19, 21, 7, 6, 3
 
@@ -146,7 +142,7 @@ module _ (order : Order) (old : List ℕ) (at : ℕ) where
 
 pub write_number : WriteNumber
 write_number cpu s old at bytes =
-    order_number (λ (o : Ordering). written_number (placed (text_in o s) old at).answer)
+    order_number (λ (o : Option Order). written_number (placed (text_in o s) old at).answer)
     (λ (order : Order). write_checks order s old at) refl (λ order. record_number_lem order old at s bytes)
     (order_of cpu)
 
@@ -161,9 +157,9 @@ line_cases P none some line = choice_by P _ (unbroken s) _ none (λ e. tagged (t
     s : List ℕ
     s = content line
 
-    tagged : (t : Tagging) → P (texts.tagged_means separator t s)
-    tagged Other = none
-    tagged (Known tag) =
+    tagged : (t : Option Tag) → P (texts.tagged_means separator t s)
+    tagged None = none
+    tagged (Some tag) =
         let ps = split separator (drop 4 s) in
         let qs = gathered tag ps in
         let es = entries_in (columns tag) qs in
@@ -183,5 +179,5 @@ line_number order line old at =
 
 pub read_number : ReadNumber
 read_number cpu line old at =
-    order_number (λ (o : Ordering). written_number (placed (record_in o line) old at).answer)
+    order_number (λ (o : Option Order). written_number (placed (record_in o line) old at).answer)
     (λ (order : Order). read_checks order line old at) refl (λ order. line_number order line old at) (order_of cpu)

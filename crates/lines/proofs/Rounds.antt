@@ -1,5 +1,6 @@
 -- The two calls, one after the other: what the first leaves in its output is what the second is given.
 -- Assumes nothing.
+use Rattle.std.specs.Prelude.{Option, Some, None, Ok}
 use mathlib.Core.Path.{◌≡◌, refl, sym, ◌∙◌}
 use mathlib.Core.Bool.{Bool, true, false}
 use mathlib.Core.List.{List}
@@ -10,17 +11,12 @@ use Rattle.answers.specs.declared.Answer.{Answer}
 use Rattle.answers.specs.declared.Answer.TheVariants.{NoTime, NameNotText, UnknownOrder, NotOneRecord}
 use Rattle.answers.specs.declared.Answer.TheVariants.{UnknownKind, BodyMisfit}
 use Rattle.numbers.specs.declared.Order.{Order}
-use Rattle.numbers.specs.declared.Ordering.{Ordering}
-use Rattle.numbers.specs.declared.Ordering.TheVariants as ordering
 use Rattle.numbers.specs.Orders.{order_of}
 use Rattle.kinds.specs.Kinds.{kind_of}
 use Rattle.frames.specs.Frames.{rec_typ, rec_sub, body, is_record}
-use Rattle.output.specs.declared.Written.TheVariants as written
 use Rattle.output.specs.Placed.{part, outcome, placed}
 use Rattle.output.proofs.Laws.{refused_bytes, placed_part}
 use Rattle.line_layouts.specs.declared.Tag.{Tag}
-use Rattle.line_layouts.specs.declared.Tagging.{Tagging}
-use Rattle.line_layouts.specs.declared.Tagging.TheVariants.{Known, Other}
 use Rattle.line_layouts.specs.Columns.{separator, columns}
 use Rattle.line_layouts.specs.Names.{entry_allowed}
 use Rattle.line_layouts.specs.Entries.{Entry, Meaning}
@@ -56,9 +52,9 @@ record_fits order s m e = go (is_record order s) refl
         let same : record { tag = tag; entries = es } ≡ m = cc in
         rw (← same) (meant_fits order tag b es is)
 
-    tagged_fits : (t : Tagging) (b : List ℕ) → tagged_means t order b ≡ Says m → Fitting m
-    tagged_fits (Known tag) b f = body_fits tag b (meant order tag b) refl f
-    tagged_fits Other b f = never UnknownKind f
+    tagged_fits : (t : Option Tag) (b : List ℕ) → tagged_means t order b ≡ Says m → Fitting m
+    tagged_fits (Some tag) b f = body_fits tag b (meant order tag b) refl f
+    tagged_fits None b f = never UnknownKind f
 
     go : (t : Bool) → is_record order s ≡ t → Fitting m
     go true f =
@@ -75,9 +71,9 @@ line_fits m t = (tell_fits separator (columns m.tag) m.entries t.0, t.1)
 
 -- ---- a record to its line, and back
 
-there : (other : ℕ) (second : Order) → order_of other ≡ ordering.Known second
+there : (other : ℕ) (second : Order) → order_of other ≡ Some second
     → (order : Order) (s old : List ℕ) (at n : ℕ) (new : List ℕ) (j : Judging) → meaning order s ≡ j
-    → placed (text_made separator j) old at ≡ outcome (written.Bytes n) new
+    → placed (text_made separator j) old at ≡ outcome (Ok n) new
     → ReadBack other second (meaning order s) (part at n new)
 there other second is order s old at n new (Faulty answer) means e = refused_bytes answer old n new e
 there other second is order s old at n new (Says m) means e =
@@ -106,13 +102,13 @@ there_and_back cpu order is s old at n new e = other_order cpu order is cpu orde
 
 -- ---- a line to its record, and back
 
-again : (cpu : ℕ) (o : Ordering) → order_of cpu ≡ o → (line old : List ℕ) (at n : ℕ) (new : List ℕ)
-    → (j : Judging) → line_meaning line ≡ j → placed (record_in o line) old at ≡ outcome (written.Bytes n) new
+again : (cpu : ℕ) (o : Option Order) → order_of cpu ≡ o → (line old : List ℕ) (at n : ℕ) (new : List ℕ)
+    → (j : Judging) → line_meaning line ≡ j → placed (record_in o line) old at ≡ outcome (Ok n) new
     → WrittenBack cpu line (part at n new)
-again cpu ordering.Unknown is line old at n new j means e = refused_bytes UnknownOrder old n new e
-again cpu (ordering.Known order) is line old at n new (Faulty answer) means e =
+again cpu None is line old at n new j means e = refused_bytes UnknownOrder old n new e
+again cpu (Some order) is line old at n new (Faulty answer) means e =
     refused_bytes answer old n new (rw means at e)
-again cpu (ordering.Known order) is line old at n new (Says m) means e =
+again cpu (Some order) is line old at n new (Says m) means e =
     let s = placed_part (record_of order m) old at n new (rw means at e) in
     let tell = read_tells separator bar_separates line m means in
     let given = tell_given separator (columns m.tag) m.entries tell.0 in

@@ -12,12 +12,11 @@
 --   RecordMost, LongestRecord   .. and so of records
 --   WriteRefused, ReadRefused   a refusal changes no byte of the output
 -- Assumes nothing.
-use Rattle.std.specs.Prelude.{◌≡◌, true, false, cond, List, [], ◌∷◌, ◌++◌, map, ℕ, ◌+◌, ◌≤◌, length, replicate}
+use Rattle.std.specs.Prelude.{◌≡◌, true, false, cond, List, [], ◌∷◌, ◌++◌, map, ℕ, ◌+◌, ◌≤◌, length, replicate, Some, Ok, Err}
 use Prim.Native.Char.{code}
 use Rattle.prelude.specs.Once.{Once}
 use Rattle.prelude.specs.Each.{each}
 use Rattle.numbers.specs.declared.Order.{Order}
-use Rattle.numbers.specs.declared.Ordering.TheVariants.{Known}
 use Rattle.numbers.specs.Orders.{order_of}
 use Rattle.answers.specs.declared.Answer.{Answer}
 use Rattle.line_layouts.specs.declared.Tag.{Tag}
@@ -31,7 +30,6 @@ use Rattle.line_texts.specs.Texts.{is_break, from_end, line_meaning}
 use Rattle.line_layouts.specs.Columns.{separator, line_feed, carriage_return, columns}
 use Rattle.line_layouts.specs.Names.{entry_allowed}
 use Rattle.line_layouts.specs.Fitting.{is_number, Fitting, all_given}
-use Rattle.output.specs.declared.Written.TheVariants as written
 use Rattle.output.specs.Placed.{part, Outcome, outcome, placed_at}
 use Rattle.lines.specs.Writing.{line_written}
 use Rattle.lines.specs.Reading.{line_read}
@@ -75,23 +73,23 @@ pub record ReadBack (cpu : ℕ) (order : Order) (said : Judging) (text : List �
 -- Any record, written and read back, has the same meaning but for the site under head 255: the n bytes that a writing
 -- of it left at their offset are such a text. The site under head 255 is no part of a meaning
 abbrev pub ThereAndBack : Type 0
-ThereAndBack = (cpu : ℕ) (order : Order) → order_of cpu ≡ Known order
+ThereAndBack = (cpu : ℕ) (order : Order) → order_of cpu ≡ Some order
     → (s old : List ℕ) (at n : ℕ) (new : List ℕ)
-    → line_written cpu s old at ≡ outcome (written.Bytes n) new → ReadBack cpu order (meaning order s) (part at n new)
+    → line_written cpu s old at ≡ outcome (Ok n) new → ReadBack cpu order (meaning order s) (part at n new)
 
 -- .. and so has one that is read back in another byte order: it means there what the first record means in its own
 abbrev pub OtherOrder : Type 0
-OtherOrder = (cpu : ℕ) (order : Order) → order_of cpu ≡ Known order
-    → (other : ℕ) (second : Order) → order_of other ≡ Known second
+OtherOrder = (cpu : ℕ) (order : Order) → order_of cpu ≡ Some order
+    → (other : ℕ) (second : Order) → order_of other ≡ Some second
     → (s old : List ℕ) (at n : ℕ) (new : List ℕ)
-    → line_written cpu s old at ≡ outcome (written.Bytes n) new
+    → line_written cpu s old at ≡ outcome (Ok n) new
     → ReadBack other second (meaning order s) (part at n new)
 
 -- the record of a line means what the line means, in the byte order that it was read in, and is written as the
 -- canonical line of that meaning
 pub record WrittenBack (cpu : ℕ) (line s : List ℕ) : Type 0 where
   pub order : Order
-  pub told : order_of cpu ≡ Known order
+  pub told : order_of cpu ≡ Some order
   pub keeps : meaning order s ≡ line_meaning line
   pub said : Meaning
   pub means : line_meaning line ≡ Says said
@@ -102,7 +100,7 @@ pub record WrittenBack (cpu : ℕ) (line s : List ℕ) : Type 0 where
 -- at their offset are such a record
 abbrev pub BackAgain : Type 0
 BackAgain = (cpu : ℕ) (line old : List ℕ) (at n : ℕ) (new : List ℕ)
-    → line_read cpu line old at ≡ outcome (written.Bytes n) new → WrittenBack cpu line (part at n new)
+    → line_read cpu line old at ≡ outcome (Ok n) new → WrittenBack cpu line (part at n new)
 
 -- ---- the ending of a line
 
@@ -153,9 +151,9 @@ longest tag = record { tag = tag; entries = map longest_in (columns tag) }
 
 -- .. and there is one of so many bytes, in either byte order, wherever there is room for it
 abbrev pub LongestLine : Type 0
-LongestLine = (tag : Tag) (cpu : ℕ) (order : Order) → order_of cpu ≡ Known order → (old : List ℕ) (at : ℕ)
+LongestLine = (tag : Tag) (cpu : ℕ) (order : Order) → order_of cpu ≡ Some order → (old : List ℕ) (at : ℕ)
     → at + most_text tag ≤ length old
-    → (line_written cpu (record_of order (longest tag)) old at).answer ≡ written.Bytes (most_text tag)
+    → (line_written cpu (record_of order (longest tag)) old at).answer ≡ Ok (most_text tag)
 
 -- the bytes of the longest body of each tag
 abbrev pub most_body : Tag → ℕ
@@ -176,8 +174,8 @@ LongestRecord = (order : Order) (tag : Tag) → length (record_of order (longest
 
 abbrev pub WriteRefused : Type 0
 WriteRefused = (cpu : ℕ) (s old : List ℕ) (at : ℕ) (a : Answer)
-    → (line_written cpu s old at).answer ≡ written.Refused a → (line_written cpu s old at).output ≡ old
+    → (line_written cpu s old at).answer ≡ Err a → (line_written cpu s old at).output ≡ old
 
 abbrev pub ReadRefused : Type 0
 ReadRefused = (cpu : ℕ) (line old : List ℕ) (at : ℕ) (a : Answer)
-    → (line_read cpu line old at).answer ≡ written.Refused a → (line_read cpu line old at).output ≡ old
+    → (line_read cpu line old at).answer ≡ Err a → (line_read cpu line old at).output ≡ old

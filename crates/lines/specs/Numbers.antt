@@ -6,24 +6,20 @@
 --   write_checks, read_checks    the checks behind the first, in the byte order that is told
 --   WriteNumber, ReadNumber    the number is that of the first check that fails
 -- Assumes nothing.
-use Rattle.std.specs.Prelude.{◌≡◌, Bool, true, false, List, [], ◌∷◌, ℕ, ◌+◌, leb, length}
+use Rattle.line_layouts.specs.declared.Tag.{Tag}
+use Rattle.answers.specs.declared.Answer.{Answer}
+use Rattle.std.specs.Prelude.{◌≡◌, Bool, true, false, List, [], ◌∷◌, ℕ, ◌+◌, leb, length, Option, Result, Some, None, Ok, Err}
 use Rattle.prelude.specs.Checks.{Check, ◌else◌, number_by}
 use Rattle.prelude.specs.Each.{each}
 use Rattle.answers.specs.Numbers.{number_of}
 use Rattle.numbers.specs.declared.Order.{Order}
-use Rattle.numbers.specs.declared.Ordering.{Ordering}
-use Rattle.numbers.specs.declared.Ordering.TheVariants as ordering
 use Rattle.numbers.specs.Orders.{order_of}
 use Rattle.numbers.specs.Laws.{Bytes}
 use Rattle.kinds.specs.Kinds.{kind_of}
 use Rattle.frames.specs.Frames.{rec_typ, rec_sub, body, is_record}
 use Rattle.bodies.specs.Bodies.{read_body, fitting}
-use Rattle.output.specs.declared.Written.{Written}
-use Rattle.output.specs.declared.Written.TheVariants as written
 use Rattle.line_layouts.specs.declared.Layout.{Layout}
 use Rattle.line_layouts.specs.declared.Layout.TheVariants as layout
-use Rattle.line_layouts.specs.declared.Tagging.{Tagging}
-use Rattle.line_layouts.specs.declared.Tagging.TheVariants.{Known, Other}
 use Rattle.line_layouts.specs.Columns.{separator, columns}
 use Rattle.line_layouts.specs.Layouts.{laid_out}
 use Rattle.line_layouts.specs.Names.{entry_allowed}
@@ -34,21 +30,21 @@ use Rattle.line_texts.specs.Texts.{line_meaning}
 use Rattle.lines.specs.Writing.{line_written}
 use Rattle.lines.specs.Reading.{line_read}
 
-abbrev pub written_number : Written → ℕ
-written_number (written.Bytes n) = 0
-written_number (written.Refused a) = number_of a
+abbrev pub written_number : (Result ℕ Answer) → ℕ
+written_number (Ok n) = 0
+written_number (Err a) = number_of a
 
 -- ---- the checks
 
 -- 4 comes first: what is checked behind it is checked in the byte order that is told
-abbrev pub order_first : Ordering → (Order → List (Check ℕ)) → List (Check ℕ)
-order_first (ordering.Known order) checks = (true else 4) ∷ checks order
-order_first ordering.Unknown checks = (false else 4) ∷ []
+abbrev pub order_first : (Option Order) → (Order → List (Check ℕ)) → List (Check ℕ)
+order_first (Some order) checks = (true else 4) ∷ checks order
+order_first None checks = (false else 4) ∷ []
 
 -- 6, when writing text: PCR, HBR and SBR have a line; #103, WIR and WRR too
-abbrev pub has_line : Tagging → Bool
-has_line (Known tag) = true
-has_line Other = false
+abbrev pub has_line : (Option Tag) → Bool
+has_line (Some tag) = true
+has_line None = false
 
 -- 18: not one of these lines, which means nothing
 abbrev pub is_said : Judging → Bool

@@ -5,12 +5,11 @@
 --   line_written   the outcome of writing: the answer, and every byte of the output
 --   said_given, Gives   whether a field, and a line of this code, lacks nothing that text must give
 -- Assumes nothing.
-use Rattle.std.specs.Prelude.{◌≡◌, Bool, not, ◌&&◌, List, ℕ}
+use Rattle.numbers.specs.declared.Order.{Order}
+use Rattle.std.specs.Prelude.{◌≡◌, Bool, not, ◌&&◌, List, ℕ, Option, Some, None}
 use Rattle.prelude.specs.Choice.{◌unless◌then◌}
 use Rattle.prelude.specs.Each.{each}
 use Rattle.answers.specs.declared.Answer.TheVariants.{UnknownOrder, NameNotText, NoTime}
-use Rattle.numbers.specs.declared.Ordering.{Ordering}
-use Rattle.numbers.specs.declared.Ordering.TheVariants.{Known, Unknown}
 use Rattle.numbers.specs.Orders.{order_of}
 use Rattle.output.specs.Placed.{Making, Makes, Refuses, Outcome, placed}
 use Rattle.line_layouts.specs.declared.Column.{Column}
@@ -34,9 +33,9 @@ text_made sep (Says m) =
 text_made sep (Faulty answer) = Refuses answer
 
 -- 4 comes first
-abbrev pub text_in : Ordering → List ℕ → Making
-text_in (Known order) s = text_made separator (meaning order s)
-text_in Unknown s = Refuses UnknownOrder
+abbrev pub text_in : (Option Order) → List ℕ → Making
+text_in (Some order) s = text_made separator (meaning order s)
+text_in None s = Refuses UnknownOrder
 
 abbrev pub text_for : ℕ → List ℕ → Making
 text_for cpu s = text_in (order_of cpu) s

@@ -12,32 +12,30 @@ ghost use Rattle.lines.specs.Reading.{line_read};
 
 use answers::Answer;
 use line_layouts::columns::SEPARATOR;
-use numbers::Ordering;
-use output::Written;
 
 // A refusal for anything but room: the lent output is not looked at, since 17 comes last, and no byte of it changes.
-pub(crate) fn refuse(out: &mut [u8], answer: Answer) -> Written
+pub(crate) fn refuse(out: &mut [u8], answer: Answer) -> Result<usize, Answer>
     ensures { outcome result out.new ≡ refused answer out.old }
 {
-    Written::Refused(answer)
+    Err(answer)
 }
 
 // Writes the line of one record, in the byte order of a CPU_TYPE, at the offset `at` of the lent output.
-pub fn write_line(order: u8, record: &[u8], out: &mut [u8], at: usize) -> Written
+pub fn write_line(order: u8, record: &[u8], out: &mut [u8], at: usize) -> Result<usize, Answer>
     ensures { outcome result out.new ≡ line_written order «record».now out.old at }
 {
     match numbers::order_of(order) {
-        Ordering::Known(order) => writing::write_in(out, at, order, SEPARATOR, record),
-        Ordering::Unknown => refuse(out, Answer::UnknownOrder),
+        Some(order) => writing::write_in(out, at, order, SEPARATOR, record),
+        None => refuse(out, Answer::UnknownOrder),
     }
 }
 
 // Reads one line and writes its record, in the byte order of a CPU_TYPE, at the offset `at` of the lent output.
-pub fn read_line(order: u8, line: &[u8], out: &mut [u8], at: usize) -> Written
+pub fn read_line(order: u8, line: &[u8], out: &mut [u8], at: usize) -> Result<usize, Answer>
     ensures { outcome result out.new ≡ line_read order line.now out.old at }
 {
     match numbers::order_of(order) {
-        Ordering::Known(order) => reading::read_in(out, at, order, SEPARATOR, line),
-        Ordering::Unknown => refuse(out, Answer::UnknownOrder),
+        Some(order) => reading::read_in(out, at, order, SEPARATOR, line),
+        None => refuse(out, Answer::UnknownOrder),
     }
 }

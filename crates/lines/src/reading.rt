@@ -5,13 +5,13 @@ ghost use Rattle.line_texts.specs.Texts.{content_means, line_meaning_by};
 ghost use Rattle.lines.specs.Reading.{record_made};
 
 use crate::refuse;
+use answers::Answer;
 use line_laying::place;
 use line_layouts::{Fault, Layout};
 use line_texts::contents::{ending_of, judge_content};
 use numbers::Order;
-use output::Written;
 
-fn read_content(out: &mut [u8], at: usize, order: Order, sep: u8, s: &[u8]) -> Written
+fn read_content(out: &mut [u8], at: usize, order: Order, sep: u8, s: &[u8]) -> Result<usize, Answer>
     ensures { outcome result out.new
         ≡ placed (record_made order (content_means sep s.now)) out.old at }
 {
@@ -24,7 +24,13 @@ fn read_content(out: &mut [u8], at: usize, order: Order, sep: u8, s: &[u8]) -> W
     }
 }
 
-pub fn read_in(out: &mut [u8], at: usize, order: Order, sep: u8, line: &[u8]) -> Written
+pub fn read_in(
+    out: &mut [u8],
+    at: usize,
+    order: Order,
+    sep: u8,
+    line: &[u8],
+) -> Result<usize, Answer>
     ensures { outcome result out.new
         ≡ placed (record_made order (line_meaning_by sep line.now)) out.old at }
 {

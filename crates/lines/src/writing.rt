@@ -18,7 +18,6 @@ use line_layouts::names::part_allowed;
 use line_layouts::{Column, Fault, Layout, Line, Said};
 use line_records::judge_record;
 use numbers::Order;
-use output::Written;
 
 // A field that text must give can be missing in a record: a time of 0.
 fn said_given(column: Column, said: Said) -> bool
@@ -74,7 +73,13 @@ fn line_allowed(sep: u8, source: &[u8], line: Line) -> bool
     true
 }
 
-fn write_said(out: &mut [u8], at: usize, sep: u8, source: &[u8], line: Line) -> Written
+fn write_said(
+    out: &mut [u8],
+    at: usize,
+    sep: u8,
+    source: &[u8],
+    line: Line,
+) -> Result<usize, Answer>
     requires { AllWithin source.now line }
     ensures { outcome result out.new
         ≡ placed (text_made sep (Says (meaning_of source.now line))) out.old at }
@@ -88,7 +93,13 @@ fn write_said(out: &mut [u8], at: usize, sep: u8, source: &[u8], line: Line) -> 
     }
 }
 
-pub fn write_in(out: &mut [u8], at: usize, order: Order, sep: u8, record: &[u8]) -> Written
+pub fn write_in(
+    out: &mut [u8],
+    at: usize,
+    order: Order,
+    sep: u8,
+    record: &[u8],
+) -> Result<usize, Answer>
     ensures { outcome result out.new
         ≡ placed (text_made sep (meaning order «record».now)) out.old at }
 {

@@ -6,12 +6,11 @@
 --   table    the cases
 --   Marked   that they are the same
 -- Assumes nothing.
-use Rattle.std.specs.Prelude.{◌≡◌, true, false, List, [], ◌∷◌, ◌++◌, map, ℕ, zero, suc, ◌+◌, ◌-◌, replicate}
+use Rattle.answers.specs.declared.Answer.{Answer}
+use Rattle.std.specs.Prelude.{◌≡◌, true, false, List, [], ◌∷◌, ◌++◌, map, ℕ, zero, suc, ◌+◌, ◌-◌, replicate, Result, Ok, Err}
 use Rattle.answers.specs.Numbers.{number_of}
 use Rattle.numbers.specs.declared.Order.TheVariants.{LowFirst}
 use Rattle.order.specs.declared.Place.TheVariants.{Body}
-use Rattle.output.specs.declared.Written.{Written}
-use Rattle.output.specs.declared.Written.TheVariants as written
 use Rattle.output.specs.Placed.{Outcome, part}
 use Rattle.lines.specs.Reading.{line_read}
 use Rattle.rows.specs.Rows.{row_key}
@@ -34,9 +33,9 @@ pub data Case : Type 0 where
   Asked : House → List Call → List ℕ → Case
   Reads : ℕ → List ℕ → Shown → Case
 
-abbrev pub read_into : Written → List ℕ → Shown
-read_into (written.Bytes n) out = Wrote (part 0 n out)
-read_into (written.Refused a) out = Refusal (number_of a)
+abbrev pub read_into : (Result ℕ Answer) → List ℕ → Shown
+read_into (Ok n) out = Wrote (part 0 n out)
+read_into (Err a) out = Refusal (number_of a)
 
 abbrev pub by_outcome : Outcome → Shown
 by_outcome o = read_into o.answer o.output

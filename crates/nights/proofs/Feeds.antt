@@ -1,6 +1,7 @@
 -- The statements of specs/Told.antt on feeds, proved: a record of a feed is judged by the house that the deliveries
 -- before it made, but for what is held, which no record reads.
 -- Assumes nothing.
+use Rattle.std.specs.Prelude.{Option, None}
 use mathlib.Core.Path.{◌≡◌, refl, ap, ap₂, sym, subst, ◌∙◌}
 use mathlib.Core.Bool.{Bool, true, false, cond, not, false≢true}
 use mathlib.Core.List.{List, [], ◌∷◌, ◌++◌}
@@ -16,8 +17,6 @@ use Rattle.prelude.proofs.Checks.{checked_where}
 use Rattle.answers.specs.declared.Answer.{Answer}
 use Rattle.answers.specs.declared.Answer.TheVariants as answer
 use Rattle.answers.specs.declared.Answer.TheVariants.{Done, NoRoom}
-use Rattle.answers.specs.declared.Values.{Values}
-use Rattle.answers.specs.declared.Values.TheVariants.{Nothing}
 use Rattle.answers.specs.declared.Saying.{Saying}
 use Rattle.answers.specs.Numbers.{saying_of, number_of, values_of}
 use Rattle.numbers.specs.Laws.{Bytes}
@@ -306,7 +305,7 @@ module _ (slot : ℕ) where
           tells_on slot h es t rec bytes
           (tells_number slot h es t rec bytes ∙ eqb-true (record_number es slot rec) 0 zero)
       go false some =
-          ap₂ (λ (k : ℕ) (v : Values). (k, v)) (tells_number slot h es t rec bytes) (tells_values slot h es t rec bytes)
+          ap₂ (λ (k : ℕ) (v : Option (ℕ × ℕ)). (k, v)) (tells_number slot h es t rec bytes) (tells_values slot h es t rec bytes)
 
   pub alike : Likeness House (List Said) Answer Saying (hearing slot) (hearing_by slot) always always Tells Answers
   alike =
@@ -327,7 +326,7 @@ pours_alike k (Stops h r a rest) (Stops es q s other) e = rw (e.2, e.3)
 -- the checks of a feed to a sound house, by their numbers
 abbrev feed_says : Bool → Bool → Bool → Says → Says
 feed_says inside opened long done =
-    checked (λ (k : ℕ). says (k, Nothing) 0) ((inside else 1) ∷ (opened else 2) ∷ (long else 17) ∷ []) done
+    checked (λ (k : ℕ). says (k, None) 0) ((inside else 1) ∷ (opened else 2) ∷ (long else 17) ∷ []) done
 
 feed_says_lem : (n : Night) (slot long : ℕ) (chunk : List ℕ) → sound n.house ≡ true
     → says_of (feed_next n slot long chunk).reply

@@ -10,11 +10,10 @@
 --   feed_walk       the walk over the bytes that are held and a chunk, so heard
 --   Refusing       where a feed was refused: at the last of its records
 -- Assumes nothing.
-use Rattle.std.specs.Prelude.{◌≡◌, true, false, cond, not, List, [], ◌∷◌, ◌++◌, ℕ, ◌+◌, ◌-◌, ◌≤◌, ◌<◌, eqb, leb, ltb, length}
+use Rattle.std.specs.Prelude.{◌≡◌, true, false, cond, not, List, [], ◌∷◌, ◌++◌, ℕ, ◌+◌, ◌-◌, ◌≤◌, ◌<◌, eqb, leb, ltb, length, None}
 use Rattle.prelude.specs.All.{all}
 use Rattle.prelude.specs.Checks.{◌else◌, tests, checked, number_by}
 use Rattle.answers.specs.declared.Answer.TheVariants.{Done, NoRoom}
-use Rattle.answers.specs.declared.Values.TheVariants.{Nothing}
 use Rattle.answers.specs.declared.Saying.{Saying}
 use Rattle.answers.specs.Numbers.{saying_of, number_of, values_of}
 use Rattle.numbers.specs.Laws.{Bytes}
@@ -203,7 +202,7 @@ heard_by slot es rec =
     (Turned (n, carried_by es n (Deliver slot rec)))
 
 abbrev pub hearing_by : ℕ → Machine (List Said) Saying
-hearing_by slot = cutting (λ es. standing_in (book_of slot es)) longest (3, Nothing) (heard_by slot)
+hearing_by slot = cutting (λ es. standing_in (book_of slot es)) longest (3, None) (heard_by slot)
 
 abbrev pub feed_walk : List Call → ℕ → List ℕ → Walked (List Said) Saying
 feed_walk calls slot chunk =
@@ -224,14 +223,14 @@ says_of (Ended a) = says (saying_of a) 0
 
 -- of a chunk of so many bytes all are taken, or those up to the end of a refused record
 abbrev pub walk_says : ℕ → Walked (List Said) Saying → Says
-walk_says n (Waits es part) = says (0, Nothing) n
+walk_says n (Waits es part) = says (0, None) n
 walk_says n (Stops es rec s rest) = says s (n - length rest)
 
 -- Order of checks, Feed: 1, 2, 17, then the records, up to the first that is refused
 abbrev pub FeedTold : Type 0
 FeedTold = (calls : List Call) (slot long : ℕ) (chunk : List ℕ) → AllSent calls → Bytes chunk
     → says_of (reply (reached fresh calls) (Feed slot long chunk))
-    ≡ checked (λ (n : ℕ). says (n, Nothing) 0)
+    ≡ checked (λ (n : ℕ). says (n, None) 0)
     ((ltb slot slot_count else 1) ∷ ((book_at slot calls).opened else 2) ∷ (eqb long carry_length else 17) ∷ [])
     (walk_says (length chunk) (feed_walk calls slot chunk))
 

@@ -14,21 +14,14 @@ pub enum Order {
     LowFirst,
 }
 
-// What a CPU_TYPE says of the order.
-#[derive(Clone, Copy)]
-pub enum Ordering {
-    Known(Order),
-    Unknown,
-}
-
 // The order of a CPU_TYPE.
-pub fn order_of(cpu: u8) -> Ordering
+pub fn order_of(cpu: u8) -> Option<Order>
     ensures { result ≡ order_of cpu }
 {
     match cpu {
-        1 => Ordering::Known(Order::HighFirst),
-        2 => Ordering::Known(Order::LowFirst),
-        _ => Ordering::Unknown,
+        1 => Some(Order::HighFirst),
+        2 => Some(Order::LowFirst),
+        _ => None,
     }
 }
 

@@ -1,5 +1,6 @@
 -- The statements of specs/Laws.antt, proved; and laws of numbers: one an answer, in the order of the tests.
 -- Assumes nothing.
+use Rattle.std.specs.Prelude.{Some, None}
 use mathlib.Core.Path.{◌≡◌, refl, sym, ◌∙◌}
 use mathlib.Core.Bool.{Bool, true, false}
 use mathlib.Core.List.{List, [], ◌∷◌, ◌++◌}
@@ -12,7 +13,6 @@ use lib.ListN.{length, replicate, length-append}
 use Rattle.prelude.specs.Each.{each}
 use Rattle.digits.specs.Digits.{digits, is_digit, decimal, decimal_from}
 use Rattle.digits.proofs.Laws.{is_digit_lem, is_low, is_high, digit_most, digits_some, digits_digits, decimal_digits}
-use Rattle.numerals.specs.declared.Number.TheVariants.{Is, Not}
 use Rattle.numerals.specs.Decimals.{capped, most_number, number_of, digit_of}
 use Rattle.numerals.specs.Laws.{NumberDigits, CappedLow, CappedBelow}
 
@@ -107,16 +107,16 @@ capped_on most n s =
     ∙ sym (capped_from most (decimal_from most s) (decimal_grows most s)))
 
 module _ (w : List ℕ) where
-  pub number_empty : length w < 1 → Not ≡ number_of w
+  pub number_empty : length w < 1 → None ≡ number_of w
   unfolding number_of
   number_empty h = rw (lt-leb 1 (length w) h)
 
   module _ (some : 1 ≤ length w) where
-    pub number_no : each is_digit w ≡ false → Not ≡ number_of w
+    pub number_no : each is_digit w ≡ false → None ≡ number_of w
     unfolding number_of
     number_no e = rw (le-leb 1 (length w) some, e)
 
-    pub number_is : each is_digit w ≡ true → Is (capped most_number (decimal w)) ≡ number_of w
+    pub number_is : each is_digit w ≡ true → Some (capped most_number (decimal w)) ≡ number_of w
     unfolding number_of
     number_is e = rw (le-leb 1 (length w) some, e)
 

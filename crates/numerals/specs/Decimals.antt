@@ -4,13 +4,11 @@
 --   capped     a number, up to a greatest one
 --   number_of   what a word says as a number
 -- Assumes nothing.
-use Rattle.std.specs.Prelude.{cond, List, ℕ, ◌-◌, leb, length}
+use Rattle.std.specs.Prelude.{cond, List, ℕ, ◌-◌, leb, length, Option, Some, None}
 use Prim.Native.Char.{code}
 use Rattle.prelude.specs.Choice.{◌unless◌then◌}
 use Rattle.prelude.specs.Each.{each}
 use Rattle.digits.specs.Digits.{is_digit, decimal}
-use Rattle.numerals.specs.declared.Number.{Number}
-use Rattle.numerals.specs.declared.Number.TheVariants.{Is, Not}
 
 -- A place that holds no number above `most` takes `most` for each that is greater. What is answered by a limit below
 -- `most` stays what it was (specs/Laws.antt): no great number counts as a small one.
@@ -22,11 +20,11 @@ abbrev pub most_number : ℕ
 most_number = 18_446_744_073_709_551_615
 
 -- leading zeros are digits, and any count of digits is a number
-unfoldable pub number_of : List ℕ → Number
+unfoldable pub number_of : List ℕ → Option ℕ
 number_of w =
-    Not unless leb 1 (length w) then
-    Not unless each is_digit w then
-    Is (capped most_number (decimal w))
+    None unless leb 1 (length w) then
+    None unless each is_digit w then
+    Some (capped most_number (decimal w))
 
 -- a digit's value, 10 for any other byte
 unfoldable pub digit_of : ℕ → ℕ

@@ -2,8 +2,6 @@
 ghost use Rattle.std.specs.Prelude.{◌≡◌, ◌+◌, ◌*◌, ◌≤◌};
 ghost use Rattle.numerals.specs.Decimals.{capped, most_number, number_of, digit_of};
 
-use crate::Number;
-
 // A number in a place that holds none above `most`.
 pub fn up_to(n: u64, most: u64) -> u64
     ensures { (result ≡ capped most n) × (result ≤ most) }
@@ -35,21 +33,21 @@ fn with_digit(n: u64, d: u64) -> u64
 }
 
 // One digit or more. A number above 18,446,744,073,709,551,615 counts as that.
-pub fn number_of(word: &[u8]) -> Number
+pub fn number_of(word: &[u8]) -> Option<u64>
     ensures { result ≡ number_of word.now }
 {
     if word.len() < 1 {
-        return Number::Not;
+        return None;
     }
     let mut n: u64 = 0;
     let mut i: usize = 0;
     while i < word.len() {
         let d = digit(word[i]);
         if 9 < d {
-            return Number::Not;
+            return None;
         }
         n = with_digit(n, d);
         i += 1;
     }
-    Number::Is(n)
+    Some(n)
 }

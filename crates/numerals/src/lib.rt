@@ -7,10 +7,3 @@ mod hex;
 
 pub use decimals::{number_of, up_to};
 pub use hex::{is_bytes, is_hex, unhex};
-
-// A word as a number.
-#[derive(Clone, Copy)]
-pub enum Number {
-    Is(u64),
-    Not,
-}

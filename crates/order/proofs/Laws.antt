@@ -1,6 +1,7 @@
 -- The statements of specs/Laws.antt, proved. Where a row or a column of the table leads to no place that meets a test
 -- is computed, step by step.
 -- Assumes nothing.
+use Rattle.std.specs.Prelude.{Option, Some, None}
 use mathlib.Core.Path.{◌≡◌, refl, ap, sym, ◌∙◌}
 use mathlib.Core.Bool.{Bool, true, false, not, false≢true}
 use Rattle.kinds.specs.declared.Kind.{Kind}
@@ -8,8 +9,6 @@ use Rattle.kinds.specs.declared.Kind.TheVariants.{Far, Atr, Mir, Mrr, Pcr, Hbr, 
 use Rattle.kinds.specs.declared.Kind.TheVariants.{Remaining, Custom, Unknown}
 use Rattle.order.specs.declared.Place.{Place}
 use Rattle.order.specs.declared.Place.TheVariants.{Start, Header, Lot, Setup, Body, Ended}
-use Rattle.order.specs.declared.Step.{Step}
-use Rattle.order.specs.declared.Step.TheVariants.{To, OutOfPlace}
 use Rattle.order.specs.Order.{by_kind, goes, by_place}
 use Rattle.order.specs.Spelled.{word_of}
 use Rattle.order.specs.Laws.{before, ended, opening, BeforeByOpening, EndedByMrr, NeverBack, NeverStart}
@@ -22,7 +21,7 @@ pub record Other (k : Kind) : Type 0 where
   pub word : word_of k ≡ 0
   pub alike : (p : Place) → goes p k ≡ goes p Pcr
 
-other_by : (k : Kind) → word_of k ≡ 0 → ((a b c d e f g : Step) → by_kind a b c d e f g k ≡ g) → Other k
+other_by : (k : Kind) → word_of k ≡ 0 → ((a b c d e f g : Option Place) → by_kind a b c d e f g k ≡ g) → Other k
 other_by k word last = record { word = word; alike = go }
   where
     go : (p : Place) → goes p k ≡ goes p Pcr
@@ -57,11 +56,11 @@ module _ (P : Kind → Type 0) (others : (k : Kind) → Other k → P k) where
 -- ---- steps that miss
 
 -- a step that leads nowhere, or to a place that fails a test
-abbrev misses : (Place → Bool) → Step → Bool
-misses test (To p) = not (test p)
-misses test OutOfPlace = true
+abbrev misses : (Place → Bool) → (Option Place) → Bool
+misses test (Some p) = not (test p)
+misses test None = true
 
-missed : (test : Place → Bool) (s : Step) (q : Place) → misses test s ≡ true → s ≡ To q → test q ≡ true → ⊥
+missed : (test : Place → Bool) (s : Option Place) (q : Place) → misses test s ≡ true → s ≡ Some q → test q ≡ true → ⊥
 missed test s q m e h =
     let fails : not (test q) ≡ true = rw e at m in
     false≢true (rw h at fails)
@@ -70,19 +69,19 @@ module _ (test : Place → Bool) where
   -- a column: one kind, from every place
   column : (k : Kind) → misses test (goes Start k) ≡ true → misses test (goes Header k) ≡ true
       → misses test (goes Lot k) ≡ true → misses test (goes Setup k) ≡ true → misses test (goes Body k) ≡ true
-      → (p q : Place) → goes p k ≡ To q → test q ≡ true → ⊥
+      → (p q : Place) → goes p k ≡ Some q → test q ≡ true → ⊥
   column k start header lot setup body Start q = missed test (goes Start k) q start
   column k start header lot setup body Header q = missed test (goes Header k) q header
   column k start header lot setup body Lot q = missed test (goes Lot k) q lot
   column k start header lot setup body Setup q = missed test (goes Setup k) q setup
   column k start header lot setup body Body q = missed test (goes Body k) q body
-  column k start header lot setup body Ended q = missed test OutOfPlace q refl
+  column k start header lot setup body Ended q = missed test None q refl
 
   -- a row: one place, by every kind
   row : (p : Place) → misses test (goes p Far) ≡ true → misses test (goes p Atr) ≡ true
       → misses test (goes p Mir) ≡ true → misses test (goes p Rdr) ≡ true → misses test (goes p Sdr) ≡ true
       → misses test (goes p Mrr) ≡ true → misses test (goes p Pcr) ≡ true
-      → (q : Place) (k : Kind) → goes p k ≡ To q → test q ≡ true → ⊥
+      → (q : Place) (k : Kind) → goes p k ≡ Some q → test q ≡ true → ⊥
   row p far atr mir rdr sdr mrr rest q k =
       missed test (goes p k) q
       (by_word (λ (j : Kind). misses test (goes p j) ≡ true) (λ j o. rw (o.alike p) rest)
@@ -92,14 +91,14 @@ module _ (test : Place → Bool) where
 
 pub before_by_opening : BeforeByOpening
 before_by_opening p q =
-    by_word (λ (j : Kind). goes p j ≡ To q → before q ≡ true → opening j ≡ true)
+    by_word (λ (j : Kind). goes p j ≡ Some q → before q ≡ true → opening j ≡ true)
     (λ j o e h. absurd (column before Pcr refl refl refl refl refl p q (sym (o.alike p) ∙ e) h))
     (λ e h. refl) (λ e h. refl) (λ e h. refl) (λ e h. refl) (λ e h. refl)
     (λ e h. absurd (column before Mrr refl refl refl refl refl p q e h))
 
 pub ended_by_mrr : EndedByMrr
 ended_by_mrr p q =
-    by_word (λ (j : Kind). goes p j ≡ To q → ended q ≡ true → j ≡ Mrr)
+    by_word (λ (j : Kind). goes p j ≡ Some q → ended q ≡ true → j ≡ Mrr)
     (λ j o e h. absurd (column ended Pcr refl refl refl refl refl p q (sym (o.alike p) ∙ e) h))
     (λ e h. absurd (column ended Far refl refl refl refl refl p q e h))
     (λ e h. absurd (column ended Atr refl refl refl refl refl p q e h))
@@ -114,7 +113,7 @@ never_back Header q k e h = refl
 never_back Lot q k e h = refl
 never_back Setup q k e h = refl
 never_back Body q k e h = absurd (row before Body refl refl refl refl refl refl refl q k e h)
-never_back Ended q k e h = absurd (missed before OutOfPlace q refl e h)
+never_back Ended q k e h = absurd (missed before None q refl e h)
 
 abbrev start : Place → Bool
 start Start = true
@@ -124,13 +123,13 @@ start Setup = false
 start Body = false
 start Ended = false
 
-never_start_at : (p q : Place) (k : Kind) → goes p k ≡ To q → start q ≡ true → ⊥
+never_start_at : (p q : Place) (k : Kind) → goes p k ≡ Some q → start q ≡ true → ⊥
 never_start_at Start q k = row start Start refl refl refl refl refl refl refl q k
 never_start_at Header q k = row start Header refl refl refl refl refl refl refl q k
 never_start_at Lot q k = row start Lot refl refl refl refl refl refl refl q k
 never_start_at Setup q k = row start Setup refl refl refl refl refl refl refl q k
 never_start_at Body q k = row start Body refl refl refl refl refl refl refl q k
-never_start_at Ended q k = missed start OutOfPlace q refl
+never_start_at Ended q k = missed start None q refl
 
 pub never_start : NeverStart
 never_start p q k e h = never_start_at p q k e (ap start h)

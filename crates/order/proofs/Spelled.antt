@@ -1,6 +1,7 @@
 -- The sentence and the table agree (specs/Laws.antt, Spelled and SpelledEnds): at each place the table goes on as what
 -- is left of the sentence. And how a walk over kinds goes on by one more.
 -- Assumes nothing.
+use Rattle.std.specs.Prelude.{Option, Some, None}
 use mathlib.Core.Path.{◌≡◌, refl, sym, ap, ◌∙◌}
 use mathlib.Core.Bool.{Bool, true, false, ◌&&◌, false≢true, and-true, and_assoc}
 use mathlib.Core.List.{List, [], ◌∷◌, ◌++◌}
@@ -9,8 +10,6 @@ use Rattle.kinds.specs.declared.Kind.{Kind}
 use Rattle.kinds.specs.declared.Kind.TheVariants.{Far, Atr, Mir, Mrr, Rdr, Sdr}
 use Rattle.order.specs.declared.Place.{Place}
 use Rattle.order.specs.declared.Place.TheVariants.{Start, Header, Lot, Setup, Body, Ended}
-use Rattle.order.specs.declared.Step.{Step}
-use Rattle.order.specs.declared.Step.TheVariants.{To, OutOfPlace}
 use Rattle.order.specs.Order.{goes, in_place, place_after}
 use Rattle.order.specs.Spelled.{is, other, one, any, at_most_one, nothing, spells, ends_with, walks, led}
 use Rattle.order.specs.Laws.{ended, Spelled, SpelledEnds}
@@ -85,13 +84,13 @@ goes_on_lem : (p : Place) (k : Kind) → is Mrr k ≡ false → in_place (goes p
     → ended (place_after (goes p k)) ≡ false
 goes_on_lem p k no_mrr = go (goes p k) refl
   where
-    by : (q : Place) → goes p k ≡ To q → (b : Bool) → ended q ≡ b → b ≡ false
+    by : (q : Place) → goes p k ≡ Some q → (b : Bool) → ended q ≡ b → b ≡ false
     by q to true e = absurd (false≢true (sym no_mrr ∙ ap (is Mrr) (ended_by_mrr p q k to e)))
     by q to false e = refl
 
-    go : (s : Step) → goes p k ≡ s → in_place s ≡ true → ended (place_after s) ≡ false
-    go OutOfPlace to e = absurd (false≢true e)
-    go (To q) to e = by q to (ended q) refl
+    go : (s : Option Place) → goes p k ≡ s → in_place s ≡ true → ended (place_after s) ≡ false
+    go None to e = absurd (false≢true e)
+    go (Some q) to e = by q to (ended q) refl
 
 ends_by_lem : (p : Place) (k : Kind) → in_place (goes p k) ≡ true → ended (place_after (goes p k)) ≡ is Mrr k
 ends_by_lem p =

@@ -4,13 +4,12 @@
 --   before, ended   the places before the body, and the one after MRR
 --   opening         the kinds that may stand before the body
 -- Assumes nothing.
-use Rattle.std.specs.Prelude.{◌≡◌, Bool, true, false, List}
+use Rattle.std.specs.Prelude.{◌≡◌, Bool, true, false, List, Some}
 use Rattle.kinds.specs.declared.Kind.{Kind}
 use Rattle.kinds.specs.declared.Kind.TheVariants.{Far, Atr, Mir, Mrr, Pcr, Hbr, Sbr, Rdr, Sdr, Wir, Wrr, Pir, Prr}
 use Rattle.kinds.specs.declared.Kind.TheVariants.{Remaining, Custom, Unknown}
 use Rattle.order.specs.declared.Place.{Place}
 use Rattle.order.specs.declared.Place.TheVariants.{Start, Header, Lot, Setup, Body, Ended}
-use Rattle.order.specs.declared.Step.TheVariants.{To}
 use Rattle.order.specs.Order.{goes, by_place}
 use Rattle.order.specs.Spelled.{is, spells, ends_with, walks, led}
 
@@ -51,19 +50,19 @@ opening Unknown = false
 
 -- a record that leaves a stream before its body is of a kind that may stand there
 abbrev pub BeforeByOpening : Type 0
-BeforeByOpening = (p q : Place) (k : Kind) → goes p k ≡ To q → before q ≡ true → opening k ≡ true
+BeforeByOpening = (p q : Place) (k : Kind) → goes p k ≡ Some q → before q ≡ true → opening k ≡ true
 
 -- only MRR ends a stream
 abbrev pub EndedByMrr : Type 0
-EndedByMrr = (p q : Place) (k : Kind) → goes p k ≡ To q → ended q ≡ true → k ≡ Mrr
+EndedByMrr = (p q : Place) (k : Kind) → goes p k ≡ Some q → ended q ≡ true → k ≡ Mrr
 
 -- a stream that has its body behind it or is in it does not come before it again
 abbrev pub NeverBack : Type 0
-NeverBack = (p q : Place) (k : Kind) → goes p k ≡ To q → before q ≡ true → before p ≡ true
+NeverBack = (p q : Place) (k : Kind) → goes p k ≡ Some q → before q ≡ true → before p ≡ true
 
 -- nothing leads back to the start, where the first record is awaited
 abbrev pub NeverStart : Type 0
-NeverStart = (p q : Place) (k : Kind) → goes p k ≡ To q → q ≡ Start → ⊥
+NeverStart = (p q : Place) (k : Kind) → goes p k ≡ Some q → q ≡ Start → ⊥
 
 -- the table read by columns
 abbrev pub ByColumn : Type 0

@@ -2,9 +2,8 @@
 // code reads the same table by columns, one for each kind.
 #![tactic(auto)]
 
-ghost use Rattle.std.specs.Prelude.{◌≡◌};
+ghost use Rattle.std.specs.Prelude.{◌≡◌, Some, None};
 ghost use Rattle.order.specs.declared.Place.TheVariants.{Body};
-ghost use Rattle.order.specs.declared.Step.TheVariants.{To, OutOfPlace};
 ghost use Rattle.order.specs.Order.{by_place, goes};
 
 use kinds::Kind;
@@ -21,15 +20,15 @@ pub enum Place {
     Ended,
 }
 
-// Where a record takes a stream, or that it is out of place: 8.
-#[derive(Clone, Copy)]
-pub enum Step {
-    To(Place),
-    OutOfPlace,
-}
-
 // One step for each place but the last, which no record leaves: a column of the table.
-fn by_place(start: Step, header: Step, lot: Step, setup: Step, body: Step, place: Place) -> Step
+fn by_place(
+    start: Option<Place>,
+    header: Option<Place>,
+    lot: Option<Place>,
+    setup: Option<Place>,
+    body: Option<Place>,
+    place: Place,
+) -> Option<Place>
     ensures { result ≡ by_place start header lot setup body place }
 {
     match place {
@@ -38,29 +37,29 @@ fn by_place(start: Step, header: Step, lot: Step, setup: Step, body: Step, place
         Place::Lot => lot,
         Place::Setup => setup,
         Place::Body => body,
-        Place::Ended => Step::OutOfPlace,
+        Place::Ended => None,
     }
 }
 
 // Where a record takes a stream whose kind the order does not tell from others: to the body, or on in it.
-fn other_place(place: Place) -> Step
-    ensures { result ≡ by_place OutOfPlace OutOfPlace (To Body) (To Body) (To Body) place }
+fn other_place(place: Place) -> Option<Place>
+    ensures { result ≡ by_place None None (Some Body) (Some Body) (Some Body) place }
 {
-    let out = Step::OutOfPlace;
-    let body = Step::To(Place::Body);
+    let out = None;
+    let body = Some(Place::Body);
     by_place(out, out, body, body, body, place)
 }
 
 // Where the next record, of that kind, takes a stream that stands at the place. The kind is asked first: a caller has
 // just searched for it, so what is left to ask is one place.
-pub fn next_place(place: Place, kind: Kind) -> Step
+pub fn next_place(place: Place, kind: Kind) -> Option<Place>
     ensures { result ≡ goes place kind }
 {
-    let out = Step::OutOfPlace;
-    let header = Step::To(Place::Header);
-    let lot = Step::To(Place::Lot);
-    let setup = Step::To(Place::Setup);
-    let ended = Step::To(Place::Ended);
+    let out = None;
+    let header = Some(Place::Header);
+    let lot = Some(Place::Lot);
+    let setup = Some(Place::Setup);
+    let ended = Some(Place::Ended);
     match kind {
         Kind::Far => by_place(header, out, out, out, out, place),
         Kind::Atr => by_place(out, header, out, out, out, place),

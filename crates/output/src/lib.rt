@@ -6,15 +6,6 @@
 ghost use Rattle.std.specs.Prelude.{◌+◌, ◌≤◌, [], ◌∷◌, length};
 ghost use Rattle.output.specs.Placed.{Put, Room, part};
 
-use answers::Answer;
-
-// What a call that fills a lent output answers: the bytes written, or a refusal.
-#[derive(Clone, Copy)]
-pub enum Written {
-    Bytes(usize),
-    Refused(Answer),
-}
-
 // One byte.
 pub fn put_byte(out: &mut [u8], b: u8) -> usize
     requires { Room (b ∷ []) out.old }

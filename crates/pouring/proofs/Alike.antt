@@ -1,5 +1,6 @@
 -- The walk over what is lent, with records counted and without.
 -- Assumes nothing.
+use Rattle.std.specs.Prelude.{Option, Some, None}
 use mathlib.Core.Path.{◌≡◌, refl, ap, sym, subst, ◌∙◌}
 use mathlib.Core.Bool.{Bool, true, false, cond}
 use mathlib.Core.List.{List, []}
@@ -18,8 +19,6 @@ use Rattle.cutting.specs.Laws.{HeardLike, WalkLike, Likeness, always}
 use Rattle.cutting.proofs.Walks.{walked_ever}
 use Rattle.walking.specs.declared.Stop.{Stop}
 use Rattle.walking.specs.declared.Stop.TheVariants.{Refused, TooLong}
-use Rattle.walking.specs.declared.Fate.{Fate}
-use Rattle.walking.specs.declared.Fate.TheVariants.{Going, Stopped}
 use Rattle.walking.specs.Walking as walking
 use Rattle.walking.specs.Walking.{delivering, ends_by}
 use Rattle.walking.specs.Lent.{Lendable}
@@ -99,19 +98,19 @@ module _ (room : Room) where
         (lends bytes low)
 
     -- where the walk that counts stands, the other one does
-    ends_alike : (fate : Fate) (p : walking.Progress) (left : List ℕ) (v : Walked Core Answer)
+    ends_alike : (fate : Option Stop) (p : walking.Progress) (left : List ℕ) (v : Walked Core Answer)
         → WalkLike Counted Why (ends_by fate longest p left) v → ends_in fate p.core left ≡ v
-    ends_alike Going p left (Waits d other) l = rw (l.0, l.1)
-    ends_alike Going p left (Stops d r f rest) l = absurd l
-    ends_alike (Stopped why) p left (Waits d other) l = absurd l
-    ends_alike (Stopped why) p left (Stops d q g other) l =
+    ends_alike None p left (Waits d other) l = rw (l.0, l.1)
+    ends_alike None p left (Stops d r f rest) l = absurd l
+    ends_alike (Some why) p left (Waits d other) l = absurd l
+    ends_alike (Some why) p left (Stops d q g other) l =
         let n = cut longest p.core.standing left in
         ap (λ (x : Core). Stops x (take n left) (reason why) (drop n left)) l.0
         ∙ ap (λ (x : List ℕ). Stops d x (reason why) (drop n left)) l.1
         ∙ ap (λ (x : Answer). Stops d q x (drop n left)) l.2
         ∙ ap (λ (x : List ℕ). Stops d q g x) l.3
 
-    pub ends_told : (fate : Fate) (p : walking.Progress) (left bytes : List ℕ) → Bytes bytes
+    pub ends_told : (fate : Option Stop) (p : walking.Progress) (left bytes : List ℕ) → Bytes bytes
         → ends_by fate longest p left ≡ counted bytes → ends_in fate p.core left ≡ bare bytes
     ends_told fate p left bytes low is =
         ends_alike fate p left (bare bytes)

@@ -1,6 +1,7 @@
 -- Laws of the carry and the chunk: what a walk over either comes to, how bytes move, and what is held and taken at the
 -- end.
 -- Assumes nothing.
+use Rattle.std.specs.Prelude.{Option, Some, None}
 use mathlib.Core.Path.{◌≡◌, refl, ap, sym, subst, ◌∙◌}
 use mathlib.Core.Bool.{Bool, true, false, cond, not, ◌&&◌, false≢true}
 use mathlib.Core.List.{List, [], ◌∷◌, ◌++◌, append_assoc, append-nil}
@@ -25,8 +26,6 @@ use Rattle.cutting.proofs.Walks.{walked_append, walked_stops, walked_again}
 use Rattle.cutting.proofs.Cuts.{needed_most, cut_record}
 use Rattle.cutting.proofs.Moves.{drop_take}
 use Rattle.walking.specs.declared.Stop.{Stop}
-use Rattle.walking.specs.declared.Fate.{Fate}
-use Rattle.walking.specs.declared.Fate.TheVariants.{Going, Stopped}
 use Rattle.walking.specs.declared.Stage.{Stage}
 use Rattle.walking.specs.Walking.{stage, stage_standing, stage_progress}
 use Rattle.walking.specs.Lent.{past_count, Walkable, Arrived}
@@ -72,7 +71,7 @@ drop_part at n l =
 
 module _ (room : Room) (keys counts parts : List ℕ) (used : ℕ) (st : Standing) (at : ℕ) (bytes : List ℕ) where
   pub walk_begins : Lends room (core keys counts used st parts) → at ≤ length bytes → length bytes ≤ past_count
-      → {s : Stage} → s ≡ stage used st 0 Going at true
+      → {s : Stage} → s ≡ stage used st 0 None at true
       → Walkable room longest keys counts parts s bytes × (s.more ≡ true)
   walk_begins lends within few is =
       rw is (
@@ -86,10 +85,10 @@ module _ (room : Room) (keys counts parts : List ℕ) (used : ℕ) (st : Standin
       )
 
   -- .. and what it comes to
-  module _ (range : Bytes bytes) {s : Stage} (first : s ≡ stage used st 0 Going at true) (ks cs ps : List ℕ) (w : Stage)
+  module _ (range : Bytes bytes) {s : Stage} (first : s ≡ stage used st 0 None at true) (ks cs ps : List ℕ) (w : Stage)
       (a : Arrived room longest keys counts parts s ks cs ps w bytes) {next : Standing}
       (stands : next ≡ stage_standing w) where
-    told : Arrived room longest keys counts parts (stage used st 0 Going at true) ks cs ps w bytes
+    told : Arrived room longest keys counts parts (stage used st 0 None at true) ks cs ps w bytes
     told = subst (λ (x : Stage). Arrived room longest keys counts parts x ks cs ps w bytes) first a
 
     pub walk_ends : ends_in w.fate (core ks cs w.used next ps) (drop w.at bytes)
@@ -109,13 +108,13 @@ module _ (room : Room) (keys counts parts : List ℕ) (p : Pour) (carry bytes : 
   size : length bytes ≡ p.held
   size = ap length are ∙ length-take-le p.held carry (omega (arith, c.within, c.long))
 
-  pub carry_begins : {s : Stage} → s ≡ stage p.used p.standing 0 Going 0 true
+  pub carry_begins : {s : Stage} → s ≡ stage p.used p.standing 0 None 0 true
       → Walkable room longest keys counts parts s bytes × (s.more ≡ true)
   carry_begins is =
       walk_begins room keys counts parts p.used p.standing 0 bytes c.lends (omega arith)
       (omega (arith, size, c.within)) is
 
-  module _ {s : Stage} (first : s ≡ stage p.used p.standing 0 Going 0 true) (ks cs ps : List ℕ) (w : Stage)
+  module _ {s : Stage} (first : s ≡ stage p.used p.standing 0 None 0 true) (ks cs ps : List ℕ) (w : Stage)
       (a : Arrived room longest keys counts parts s ks cs ps w bytes) where
     pub carry_left : w.at ≤ p.held
     carry_left = omega (arith, a.within, size)
@@ -170,7 +169,7 @@ pub tops : (room : Room) (keys counts parts : List ℕ) (p : Pour) (carry chunk 
     → p.held + n ≤ length carry
     → take (p.held + n) mid ≡ take p.held carry ++ take n (drop p.at chunk)
     → Flows room keys counts parts
-    (record { used = p.used; standing = p.standing; fate = Going; held = p.held + n; at = p.at + n }) mid ks cs ps
+    (record { used = p.used; standing = p.standing; fate = None; held = p.held + n; at = p.at + n }) mid ks cs ps
     r new
     → Tops room (pour_core keys counts parts p) p carry chunk (pour_core ks cs ps r) r new
 tops room keys counts parts p carry chunk n mid ks cs ps r new long some there fits top f =
@@ -190,13 +189,13 @@ tops room keys counts parts p carry chunk n mid ks cs ps r new long some there f
 -- ---- the chunk, where it lies
 
 -- what is held of it has room in a carry
-pub part_fits : (fate : Fate) (st : Standing) (chunk : List ℕ) (from : ℕ) → from ≤ length chunk → Bytes chunk
-    → (fate ≡ Going → length (drop from chunk) < longest) → (end : ℕ) → end ≡ held_to fate st chunk from
+pub part_fits : (fate : Option Stop) (st : Standing) (chunk : List ℕ) (from : ℕ) → from ≤ length chunk → Bytes chunk
+    → (fate ≡ None → length (drop from chunk) < longest) → (end : ℕ) → end ≡ held_to fate st chunk from
     → (from ≤ end) × (end ≤ length chunk) × (end - from ≤ carry_length)
-part_fits Going st chunk from within range few end is =
+part_fits None st chunk from within range few end is =
     let size = length-drop from chunk in
     (omega (arith, is), omega (arith, is), omega (arith, is, size, few refl))
-part_fits (Stopped why) st chunk from within range few end is =
+part_fits (Some why) st chunk from within range few end is =
     go (leb (needed st (drop from chunk)) (length chunk - from)) refl is
   where
     go : (b : Bool) → leb (needed st (drop from chunk)) (length chunk - from) ≡ b
@@ -213,7 +212,7 @@ part_fits (Stopped why) st chunk from within range few end is =
         let large = leb-false n (length chunk - from) high in
         (omega (arith, e), omega (arith, e), omega (arith, e, most, large))
 
-pub chunk_pours : (fate : Fate) (c : Core) (chunk carry new : List ℕ) (from end n : ℕ) → from ≤ length chunk
+pub chunk_pours : (fate : Option Stop) (c : Core) (chunk carry new : List ℕ) (from end n : ℕ) → from ≤ length chunk
     → Bytes chunk → end ≡ held_to fate c.standing chunk from → Put (part from (end - from) chunk) carry n new
     → made c (answer_of fate) (take n new) end ≡ poured (length chunk) (ends_in fate c (drop from chunk))
 chunk_pours fate c chunk carry new from end n within range is put = go fate is
@@ -228,13 +227,13 @@ chunk_pours fate c chunk carry new from end n within range is put = go fate is
         ∙ ap (λ (k : ℕ). take k (d ++ drop (length d) carry)) put.count
         ∙ take-append_seam d (drop (length d) carry)
 
-    go : (f : Fate) → end ≡ held_to f c.standing chunk from
+    go : (f : Option Stop) → end ≡ held_to f c.standing chunk from
         → made c (answer_of f) (take n new) end ≡ poured (length chunk) (ends_in f c (drop from chunk))
-    go Going e =
+    go None e =
         let all : take (end - from) (drop from chunk) ≡ drop from chunk
         = take_all (end - from) (drop from chunk) (omega (arith, e, size)) in
         rw (front, all, e)
-    go (Stopped why) e =
+    go (Some why) e =
         let most = needed_most c.standing (drop from chunk) (bytes_drop from chunk range) in
         let whole = cut_record longest c.standing (drop from chunk) most in
         let m = needed c.standing (drop from chunk) in
@@ -247,11 +246,11 @@ chunk_pours fate c chunk carry new from end n within range is put = go fate is
         rw (whole, front, held, short, append-nil)
         (ap (λ (k : ℕ). made c (reason why) (take m (drop from chunk)) k) (taken e))
       where
-        sized : end ≡ held_to (Stopped why) c.standing chunk from
+        sized : end ≡ held_to (Some why) c.standing chunk from
             → end - from ≡ smaller (needed c.standing (drop from chunk)) (length (drop from chunk))
         sized e = rw size (omega (arith, e))
 
-        taken : end ≡ held_to (Stopped why) c.standing chunk from
+        taken : end ≡ held_to (Some why) c.standing chunk from
             → end ≡ length chunk - length (drop (needed c.standing (drop from chunk)) (drop from chunk))
         taken e = by (leb (needed c.standing (drop from chunk)) (length chunk - from)) refl e
           where
@@ -339,7 +338,7 @@ module _ (n at : ℕ) (carry left : List ℕ) (held : ℕ) (within : held ≤ le
       go false high = omega arith
 
 pub stop_pours : (room : Room) (why : Stop) (keys counts parts : List ℕ) (p : Pour) (carry chunk : List ℕ)
-    → p.at ≤ length chunk → p.held ≤ carry_length → length carry ≡ carry_length → Bytes carry → p.fate ≡ Stopped why
+    → p.at ≤ length chunk → p.held ≤ carry_length → length carry ≡ carry_length → Bytes carry → p.fate ≡ Some why
     → {r : Pour} → r ≡ halted p (needed p.standing (take p.held carry))
     → Pours
     (walked (pouring room) (ends_in p.fate (pour_core keys counts parts p) (take p.held carry))
@@ -356,13 +355,13 @@ stop_pours room why keys counts parts p carry chunk upto within long range stopp
     let whole : cut longest c.standing bytes ≡ n
     = cut_record longest p.standing bytes most in
     let walk : walked m (ends_in p.fate c bytes) left ≡ Stops c (take n bytes) (reason why) (drop n bytes ++ left)
-    = ap (λ (f : Fate). walked m (ends_in f c bytes) left) stopped
+    = ap (λ (f : Option Stop). walked m (ends_in f c bytes) left) stopped
     ∙ ap (λ (k : ℕ). walked m (Stops c (take k bytes) (reason why) (drop k bytes)) left) whole
     ∙ walked_stops Core Answer m c (take n bytes) (reason why) (drop n bytes) left in
     rw is
     (record {
       is =
-          ap (λ (f : Fate). made c (answer_of f) (take (halted p n).held carry) (halted p n).at) stopped
+          ap (λ (f : Option Stop). made c (answer_of f) (take (halted p n).held carry) (halted p n).at) stopped
           ∙ ap (λ (l : List ℕ). made c (reason why) l (halted p n).at)
           (held_halted n p.at carry left p.held inside (length chunk) size)
           ∙ ap
@@ -377,7 +376,7 @@ stop_pours room why keys counts parts p carry chunk upto within long range stopp
 
 -- part of a record in the carry, and no more of the chunk
 pub rest_pours : (room : Room) (c : Core) (p : Pour) (carry chunk : List ℕ) → p.at ≤ length chunk
-    → p.held ≤ carry_length → p.fate ≡ Going → (p.held ≡ 0 → ⊥) → goes_on p (length chunk) ≡ false
+    → p.held ≤ carry_length → p.fate ≡ None → (p.held ≡ 0 → ⊥) → goes_on p (length chunk) ≡ false
     → Pours (walked (pouring room) (ends_in p.fate c (take p.held carry)) (drop p.at chunk)) chunk c p carry
 unfolding walked
 rest_pours room c p carry chunk upto within goes some done =
@@ -392,7 +391,7 @@ rest_pours room c p carry chunk upto within goes some done =
 
 -- nothing in the carry
 pub none_held : (room : Room) (c : Core) (p : Pour) (carry chunk : List ℕ) {d : Core} {r : Pour} {new : List ℕ}
-    → p.fate ≡ Going → p.held ≡ 0
+    → p.fate ≡ None → p.held ≡ 0
     → Pours (walked (pouring room) (Waits c []) (drop p.at chunk)) chunk d r new
     → Pours (walked (pouring room) (ends_in p.fate c (take p.held carry)) (drop p.at chunk)) chunk d r new
 none_held room c p carry chunk goes none = rw (goes, none) (λ h. h)
@@ -407,11 +406,11 @@ pours_by {chunk = chunk} same p =
 -- the bytes in the carry and those left of the chunk lead to one end
 pub record Flowing (room : Room) (w : Walked Core Answer) (c : Core) (q : Pour) (carry chunk : List ℕ) : Type 0 where
   pub is : walked (pouring room) (ends_in q.fate c (take q.held carry)) (drop q.at chunk) ≡ w
-  pub again : q.fate ≡ Going
+  pub again : q.fate ≡ None
       → walked (pouring room) (Waits c []) (take q.held carry) ≡ Waits c (take q.held carry)
   pub lends : Lends room c
   pub within : q.held ≤ carry_length
-  pub few : q.fate ≡ Going → q.held < carry_length
+  pub few : q.fate ≡ None → q.held < carry_length
   pub upto : q.at ≤ length chunk
 
 module _ (room : Room) (keys counts parts : List ℕ) (p : Pour) (carry ks cs ps : List ℕ) (r : Pour)
@@ -428,7 +427,7 @@ module _ (room : Room) (keys counts parts : List ℕ) (p : Pour) (carry ks cs ps
         again = λ goes.
             walked_again Core Answer (pouring room) (pour_core keys counts parts p) (pour_core ks cs ps r)
             (take p.held carry) (take r.held new)
-            (sym f.is ∙ ap (λ (x : Fate). ends_in x (pour_core ks cs ps r) (take r.held new)) goes);
+            (sym f.is ∙ ap (λ (x : Option Stop). ends_in x (pour_core ks cs ps r) (take r.held new)) goes);
         lends = f.lends;
         within = omega (arith, f.within, c.within);
         few = f.few;
@@ -445,17 +444,17 @@ module _ (room : Room) (keys counts parts : List ℕ) (p : Pour) (carry ks cs ps
       ∙ ap (λ (w : Walked Core Answer). walked m w chunk) f.is
       ∙ sym (walked_append Core Answer m (Waits (pour_core keys counts parts p) []) (take p.held carry) chunk)
 
-pub goes_on_lem : (p : Pour) (end : ℕ) → goes_on p end ≡ true → (p.fate ≡ Going) × (p.at < end)
+pub goes_on_lem : (p : Pour) (end : ℕ) → goes_on p end ≡ true → (p.fate ≡ None) × (p.at < end)
 goes_on_lem p end e =
     let told = go p.fate (not (eqb p.held 0) && ltb p.at end) e in
     (told.0, ltb-true p.at end (both_right (not (eqb p.held 0)) (ltb p.at end) told.1))
   where
-    go : (f : Fate) (a : Bool) → (is_going f && a) ≡ true → (f ≡ Going) × (a ≡ true)
-    go Going a e = (refl, e)
-    go (Stopped why) a e = absurd (false≢true e)
+    go : (f : Option Stop) (a : Bool) → (is_going f && a) ≡ true → (f ≡ None) × (a ≡ true)
+    go None a e = (refl, e)
+    go (Some why) a e = absurd (false≢true e)
 
 pub flow_on : (room : Room) (w : Walked Core Answer) (c : Core) (q : Pour) (carry chunk : List ℕ) (d : Core) (r : Pour)
-    (new : List ℕ) → q.fate ≡ Going → Flowing room w c q carry chunk → Tops room c q carry chunk d r new
+    (new : List ℕ) → q.fate ≡ None → Flowing room w c q carry chunk → Tops room c q carry chunk d r new
     → Flowing room w d r new chunk
 flow_on room w c q carry chunk d r new goes f t =
     let m = pouring room in
@@ -472,11 +471,11 @@ flow_on room w c q carry chunk d r new goes f t =
           ∙ sym (walked_append Core Answer m (Waits c part) more (drop r.at chunk))
           ∙ ap (λ (k : ℕ). walked m (Waits c part) (more ++ drop k chunk)) (sym next)
           ∙ ap (λ (l : List ℕ). walked m (Waits c part) l) (sym (drop_part q.at n chunk))
-          ∙ ap (λ (x : Fate). walked m (ends_in x c part) (drop q.at chunk)) (sym goes)
+          ∙ ap (λ (x : Option Stop). walked m (ends_in x c part) (drop q.at chunk)) (sym goes)
           ∙ f.is;
       again = λ on.
           walked_again Core Answer m c d (part ++ more) (take r.held new)
-          (sym t.is ∙ ap (λ (x : Fate). ends_in x d (take r.held new)) on);
+          (sym t.is ∙ ap (λ (x : Option Stop). ends_in x d (take r.held new)) on);
       lends = t.lends;
       within = t.within;
       few = t.few;
@@ -492,10 +491,10 @@ smaller_some a b one two = go (leb a b)
     go true = one
     go false = two
 
-pub goes_none : (p : Pour) (end : ℕ) → p.fate ≡ Going → p.held ≡ 0 → false ≡ goes_on p end
+pub goes_none : (p : Pour) (end : ℕ) → p.fate ≡ None → p.held ≡ 0 → false ≡ goes_on p end
 goes_none p end goes none = rw (goes, none)
 
-pub goes_more : (p : Pour) (end : ℕ) → p.fate ≡ Going → (p.held ≡ 0 → ⊥) → ltb p.at end ≡ goes_on p end
+pub goes_more : (p : Pour) (end : ℕ) → p.fate ≡ None → (p.held ≡ 0 → ⊥) → ltb p.at end ≡ goes_on p end
 goes_more p end goes some = rw (goes, ne_eqb p.held 0 some)
 
 module _ (p : Pour) (long n : ℕ) (is : n ≡ smaller long p.held) where
@@ -511,11 +510,11 @@ module _ (p : Pour) (long n : ℕ) (is : n ≡ smaller long p.held) where
       let none : p.at - (p.held - n) ≡ 0 = omega (arith, high) in
       rw (← is, same, none)
 
-module _ (st : Standing) (chunk : List ℕ) (from : ℕ) {f : Fate} where
-  pub held_all : f ≡ Going → length chunk ≡ held_to f st chunk from
+module _ (st : Standing) (chunk : List ℕ) (from : ℕ) {f : (Option Stop)} where
+  pub held_all : f ≡ None → length chunk ≡ held_to f st chunk from
   held_all e = rw e
 
-  pub held_record : {why : Stop} → f ≡ Stopped why → {n m : ℕ} → n ≡ smaller m (length chunk - from)
+  pub held_record : {why : Stop} → f ≡ Some why → {n m : ℕ} → n ≡ smaller m (length chunk - from)
       → m ≡ needed st (take (length chunk - from) (drop from chunk)) → from + n ≡ held_to f st chunk from
   held_record e {n} {m} is told =
       let long : m ≡ needed st (drop from chunk)

@@ -6,7 +6,7 @@
 --   halted     a refused record in the carry, and what is taken of the chunk then
 --   Flows, Tops, Pours   what the functions over the carry and the chunk come to
 -- Assumes nothing.
-use Rattle.std.specs.Prelude.{◌≡◌, Bool, true, false, cond, not, ◌&&◌, List, [], ◌++◌, ℕ, ◌+◌, ◌-◌, ◌≤◌, ◌<◌, eqb, leb, ltb, length, take, drop}
+use Rattle.std.specs.Prelude.{◌≡◌, Bool, true, false, cond, not, ◌&&◌, List, [], ◌++◌, ℕ, ◌+◌, ◌-◌, ◌≤◌, ◌<◌, eqb, leb, ltb, length, take, drop, Option, Some, None}
 use Rattle.numbers.specs.Laws.{Bytes}
 use Rattle.answers.specs.declared.Answer.{Answer}
 use Rattle.answers.specs.declared.Answer.TheVariants.{Done, NotOneRecord}
@@ -20,8 +20,6 @@ use Rattle.cutting.specs.Needed.{longest, needed, cut}
 use Rattle.cutting.specs.Walk.{Heard, Kept, Turned, Machine, Walked, Waits, Stops, walked, cutting, state_of}
 use Rattle.walking.specs.declared.Stop.{Stop}
 use Rattle.walking.specs.declared.Stop.TheVariants.{Refused, TooLong}
-use Rattle.walking.specs.declared.Fate.{Fate}
-use Rattle.walking.specs.declared.Fate.TheVariants.{Going, Stopped}
 use Rattle.pouring.specs.declared.Pour.{Pour}
 
 -- ---- the walk over what is lent
@@ -46,22 +44,22 @@ abbrev pub reason : Stop → Answer
 reason (Refused a) = a
 reason TooLong = NotOneRecord
 
-abbrev pub answer_of : Fate → Answer
-answer_of Going = Done
-answer_of (Stopped why) = reason why
+abbrev pub answer_of : (Option Stop) → Answer
+answer_of None = Done
+answer_of (Some why) = reason why
 
-abbrev pub ends_in : Fate → Core → List ℕ → Walked Core Answer
-ends_in Going c bytes = Waits c bytes
-ends_in (Stopped why) c bytes =
+abbrev pub ends_in : (Option Stop) → Core → List ℕ → Walked Core Answer
+ends_in None c bytes = Waits c bytes
+ends_in (Some why) c bytes =
     let n = cut longest c.standing bytes in
     Stops c (take n bytes) (reason why) (drop n bytes)
 
 abbrev pub pour_core : List ℕ → List ℕ → List ℕ → Pour → Core
 pour_core keys counts parts p = core keys counts p.used p.standing parts
 
-abbrev pub is_going : Fate → Bool
-is_going Going = true
-is_going (Stopped why) = false
+abbrev pub is_going : (Option Stop) → Bool
+is_going None = true
+is_going (Some why) = false
 
 -- the carry is topped up while part of a record stands there and there is more of the chunk
 abbrev pub goes_on : Pour → ℕ → Bool
@@ -84,9 +82,9 @@ halted p long =
     }
 
 -- what is held of the bytes left of a chunk ends with it, or with the refused record
-abbrev pub held_to : Fate → Standing → List ℕ → ℕ → ℕ
-held_to Going st chunk from = length chunk
-held_to (Stopped why) st chunk from = from + smaller (needed st (drop from chunk)) (length chunk - from)
+abbrev pub held_to : (Option Stop) → Standing → List ℕ → ℕ → ℕ
+held_to None st chunk from = length chunk
+held_to (Some why) st chunk from = from + smaller (needed st (drop from chunk)) (length chunk - from)
 
 -- ---- what the functions come to
 
@@ -102,7 +100,7 @@ pub record Flows (room : Room) (keys counts parts : List ℕ) (p : Pour) (carry 
       ≡ walked (pouring room) (Waits (pour_core keys counts parts p) []) (take p.held carry)
   pub lends : Lends room (pour_core ks cs ps r)
   pub within : r.held ≤ p.held
-  pub few : r.fate ≡ Going → r.held < carry_length
+  pub few : r.fate ≡ None → r.held < carry_length
   pub same : r.at ≡ p.at
 
 -- bytes of the chunk are moved to the carry, and it is walked again
@@ -112,7 +110,7 @@ pub record Tops (room : Room) (c : Core) (p : Pour) (carry chunk : List ℕ) (d 
       ≡ walked (pouring room) (Waits c []) (take p.held carry ++ take (r.at - p.at) (drop p.at chunk))
   pub lends : Lends room d
   pub within : r.held ≤ carry_length
-  pub few : r.fate ≡ Going → r.held < carry_length
+  pub few : r.fate ≡ None → r.held < carry_length
   pub further : p.at < r.at
   pub upto : r.at ≤ length chunk
 

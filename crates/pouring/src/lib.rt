@@ -16,7 +16,7 @@ use cutting::{keep, needed};
 use house::{House, Room};
 use output::put_part;
 use session::Standing;
-use walking::{Fate, Stop, stage_of, standing_of, walk};
+use walking::{Stop, stage_of, standing_of, walk};
 
 // How far a feed is, but for rows, guesses and parts, which are lent: `held` bytes stand at the front of the carry, and
 // `at` bytes of the chunk were moved there, or judged where they lie.
@@ -24,7 +24,7 @@ use walking::{Fate, Stop, stage_of, standing_of, walk};
 pub struct Pour {
     pub used: usize,
     pub standing: Standing,
-    pub fate: Fate,
+    pub fate: Option<Stop>,
     pub held: usize,
     pub at: usize,
 }
@@ -40,12 +40,12 @@ fn reason_of(why: Stop) -> Answer
 }
 
 // What a feed that came so far is answered.
-pub fn answer_of(fate: Fate) -> Answer
+pub fn answer_of(fate: Option<Stop>) -> Answer
     ensures { result ≡ answer_of fate }
 {
     match fate {
-        Fate::Going => Answer::Done,
-        Fate::Stopped(why) => reason_of(why),
+        None => Answer::Done,
+        Some(why) => reason_of(why),
     }
 }
 
@@ -55,13 +55,13 @@ fn goes_on(p: Pour, end: usize) -> bool
 {
     let fate = p.fate;
     match fate {
-        Fate::Going => {
+        None => {
             if p.held == 0 {
                 return false;
             }
             p.at < end
         }
-        Fate::Stopped(_) => false,
+        Some(_) => false,
     }
 }
 
@@ -87,7 +87,7 @@ fn pour_carry(
         parts,
         room,
         House::CARRY,
-        stage_of(p.used, p.standing, 0, Fate::Going, 0, true),
+        stage_of(p.used, p.standing, 0, None, 0, true),
         &carry[0..end],
     );
     let standing = standing_of(w);
@@ -171,14 +171,14 @@ fn stop_at(p: Pour, carry: &[u8]) -> Pour
 }
 
 // Where the bytes end that are held of those left from `from` on: all of them, or the refused record.
-fn held_to(fate: Fate, st: Standing, chunk: &[u8], from: usize) -> usize
+fn held_to(fate: Option<Stop>, st: Standing, chunk: &[u8], from: usize) -> usize
     requires { from ≤ length chunk.now }
     ensures { result ≡ held_to fate st chunk.now from }
 {
     let end = chunk.len();
     match fate {
-        Fate::Going => end,
-        Fate::Stopped(_) => {
+        None => end,
+        Some(_) => {
             let n = smaller(needed(st, &chunk[from..end]), end - from);
             from + n
         }
@@ -211,7 +211,7 @@ fn pour_chunk(
         parts,
         room,
         House::CARRY,
-        stage_of(p.used, p.standing, 0, Fate::Going, at, true),
+        stage_of(p.used, p.standing, 0, None, at, true),
         chunk,
     );
     let standing = standing_of(w);
@@ -252,7 +252,7 @@ fn pour_more(
     let topped = Pour {
         used: p.used,
         standing,
-        fate: Fate::Going,
+        fate: None,
         held: held + n,
         at: at + n,
     };
@@ -281,8 +281,8 @@ fn pour_rest(
 {
     let fate = p.fate;
     match fate {
-        Fate::Stopped(_) => stop_at(p, carry),
-        Fate::Going => {
+        Some(_) => stop_at(p, carry),
+        None => {
             if p.held == 0 {
                 return pour_chunk(keys, counts, guesses, parts, room, p, carry, chunk);
             }

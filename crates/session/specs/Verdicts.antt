@@ -6,11 +6,9 @@
 --   ByItself        what a record by itself may be refused with, where these parts are open: its number is one of
 --                   own_number, and it carries what carried says
 -- Assumes nothing.
-use Rattle.std.specs.Prelude.{ℕ, ◌≡◌, Bool, true, cond, ◌&&◌, ◌||◌, List, eqb, leb}
+use Rattle.std.specs.Prelude.{ℕ, ◌≡◌, Bool, true, cond, ◌&&◌, ◌||◌, List, eqb, leb, Option, None}
 use Rattle.answers.specs.declared.Answer.{Answer}
 use Rattle.answers.specs.declared.Answer.TheVariants as answer
-use Rattle.answers.specs.declared.Values.{Values}
-use Rattle.answers.specs.declared.Values.TheVariants.{Nothing}
 use Rattle.answers.specs.Numbers.{number_of, values_of}
 use Rattle.session.specs.declared.Standing.{Standing}
 use Rattle.session.specs.declared.Change.{Change}
@@ -41,8 +39,8 @@ abbrev pub own_number : ℕ → Bool
 own_number n = (leb 3 n && leb n 12) || (eqb n 14 || (eqb n 20 || (eqb n 22 || (eqb n 23 || eqb n 33))))
 
 -- 12 carries a part, and no other number carries anything
-abbrev pub carried : ℕ → List ℕ → Values
-carried n parts = cond (eqb n 12) (values_of (still_open parts)) Nothing
+abbrev pub carried : ℕ → List ℕ → Option (ℕ × ℕ)
+carried n parts = cond (eqb n 12) (values_of (still_open parts)) None
 
 abbrev pub ByItself : List ℕ → Answer → Type 0
 ByItself parts a = (own_number (number_of a) ≡ true) × (values_of a ≡ carried (number_of a) parts)

@@ -1,6 +1,8 @@
 -- Laws of a turn of the program's loop: what a read leaves, that the input comes nearer to its end, and that the stream
 -- was followed over all that was read.
 -- Assumes nothing.
+use Rattle.std.specs.Prelude.{Option, Some, None}
+use Rattle.walking.specs.declared.Stop.{Stop}
 use mathlib.Core.Path.{◌≡◌, refl, ap, sym, ◌∙◌}
 use mathlib.Core.Bool.{Bool, true, false, cond, true≢false, false≢true}
 use mathlib.Core.List.{List, [], ◌++◌}
@@ -12,8 +14,6 @@ use lib.ListN.{length, take, drop, length-append, length-drop}
 use lib.Seq.{take_at, length-take-le}
 use Rattle.output.specs.Placed.{Put}
 use Rattle.cutting.specs.Walk.{walked}
-use Rattle.walking.specs.declared.Fate.{Fate}
-use Rattle.walking.specs.declared.Fate.TheVariants.{Going, Stopped}
 use Rattle.tally_lines.proofs.Lines.{put_as}
 use Rattle.following.specs.declared.Stream.{Stream}
 use Rattle.following.specs.Following.{Progress, progress, followed, begun}
@@ -139,8 +139,8 @@ told s input buf e old n new put =
       final = λ more. go more s.fate refl e.ended;
     }
   where
-    go : more_after input.got input.read ≡ true → (f : Fate) → s.fate ≡ f → AtEnd f input → (more : List ℕ)
+    go : more_after input.got input.read ≡ true → (f : Option Stop) → s.fate ≡ f → AtEnd f input → (more : List ℕ)
         → tally_text (e.heard.bytes ++ more) ≡ tally_text e.heard.bytes
-    go open_still Going is last more = absurd (true≢false (sym open_still ∙ last refl))
-    go open_still (Stopped why) is last more =
+    go open_still None is last more = absurd (true≢false (sym open_still ∙ last refl))
+    go open_still (Some why) is last more =
         tally_stopped e.heard.bytes more why (ap (λ (p : Progress). p.fate) (sym e.heard.is) ∙ is)

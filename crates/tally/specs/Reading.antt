@@ -7,10 +7,9 @@
 --   Through     a stream that was followed until it stopped, or to the end of the input
 --   Told        the text of bytes, as many as were read
 -- Assumes nothing.
-use Rattle.std.specs.Prelude.{◌≡◌, Bool, true, false, cond, List, ◌++◌, ℕ, ◌+◌, ◌≤◌, ltb, length, take}
+use Rattle.walking.specs.declared.Stop.{Stop}
+use Rattle.std.specs.Prelude.{◌≡◌, Bool, true, false, cond, List, ◌++◌, ℕ, ◌+◌, ◌≤◌, ltb, length, take, Option, Some, None}
 use Rattle.output.specs.Placed.{Put}
-use Rattle.walking.specs.declared.Fate.{Fate}
-use Rattle.walking.specs.declared.Fate.TheVariants.{Going, Stopped}
 use Rattle.walking.specs.Lent.{past_count}
 use Rattle.following.specs.declared.Stream.{Stream}
 use Rattle.following.specs.Following.{followed, begun}
@@ -44,12 +43,12 @@ pub record Heard (s : Stream) (buf : List ℕ) (read : ℕ) : Type 0 where
   pub is : progress_of s buf ≡ followed begun bytes
   pub count : length bytes ≡ read
 
-abbrev pub is_going : Fate → Bool
-is_going Going = true
-is_going (Stopped why) = false
+abbrev pub is_going : (Option Stop) → Bool
+is_going None = true
+is_going (Some why) = false
 
 -- a stream that goes on is read to the end of the input
-abbrev pub AtEnd : Fate → Input → Type 0
+abbrev pub AtEnd : (Option Stop) → Input → Type 0
 AtEnd fate input = is_going fate ≡ true → more_after input.got input.read ≡ false
 
 pub record Through (e : Ended) (buf : List ℕ) : Type 0 where

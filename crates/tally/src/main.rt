@@ -11,7 +11,6 @@ use following::{Stream, begin, follow};
 use std::io;
 use std::io::Read;
 use tallying::finish;
-use walking::Fate;
 
 // Room for the bytes of an unfinished record, fewer than 65,536, and a chunk behind them.
 const BUFFER: usize = 327680;
@@ -52,8 +51,8 @@ fn is_going(s: Stream) -> bool
 {
     let fate = s.fate;
     match fate {
-        Fate::Going => true,
-        Fate::Stopped(_) => false,
+        None => true,
+        Some(_) => false,
     }
 }
 

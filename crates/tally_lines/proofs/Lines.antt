@@ -1,12 +1,11 @@
 -- Laws of the lines that end a stream: how long they are, and how a row's line is put together.
 -- Assumes nothing.
+use Rattle.std.specs.Prelude.{Option, Some, None}
 use mathlib.Core.Path.{◌≡◌, ap}
 use mathlib.Core.List.{List, ◌++◌, append_assoc, append-nil}
 use Prim.Native.Nat.{ℕ, ◌+◌, ◌-◌, ◌≤◌, ◌<◌}
 use native.Mathlib.Omega.{arith}
 use lib.ListN.{length, take, drop, length-append}
-use Rattle.answers.specs.declared.Values.{Values}
-use Rattle.answers.specs.declared.Values.TheVariants.{Nothing, Part}
 use Rattle.answers.specs.Numbers.{OfBytes}
 use Rattle.house.specs.declared.Row.{Row}
 use Rattle.output.specs.Placed.{Put}
@@ -20,9 +19,9 @@ use Rattle.tally_lines.specs.Writing.{cell, hbr_line, most_line, most_refused, P
 -- ---- how long a line is
 
 module _ (k : ℕ) (fits : k < 18_446_744_073_709_551_616) where
-  ending_most : (v : Values) → OfBytes v → length (ending v) ≤ 34
-  ending_most Nothing low = omega arith
-  ending_most (Part head site) low =
+  ending_most : (v : Option (ℕ × ℕ)) → OfBytes v → length (ending v) ≤ 34
+  ending_most None low = omega arith
+  ending_most (Some (head, site)) low =
       simp length-append
       (omega (
         arith,
@@ -30,7 +29,7 @@ module _ (k : ℕ) (fits : k < 18_446_744_073_709_551_616) where
         digits_most site (omega (arith, low.1)),
       ))
 
-  pub refused_most : (n : ℕ) (v : Values) → n < 256 → OfBytes v → length (refusal n v k) ≤ most_refused
+  pub refused_most : (n : ℕ) (v : Option (ℕ × ℕ)) → n < 256 → OfBytes v → length (refusal n v k) ≤ most_refused
   refused_most n v low bytes =
       simp length-append
       (omega (arith, digits_long k fits, digits_most n (omega (arith, low)), ending_most v bytes))

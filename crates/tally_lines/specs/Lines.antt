@@ -4,11 +4,9 @@
 --   refused_line, too_long_line, unfinished_line   the three other endings
 --   numbered, said   words and a number, and the end of a line behind it
 -- Assumes nothing.
-use Rattle.std.specs.Prelude.{ℕ, List, [], ◌∷◌, ◌++◌}
+use Rattle.std.specs.Prelude.{ℕ, List, [], ◌∷◌, ◌++◌, Option, Some, None}
 use Prim.Native.Char.{code}
 use Rattle.answers.specs.declared.Answer.{Answer}
-use Rattle.answers.specs.declared.Values.{Values}
-use Rattle.answers.specs.declared.Values.TheVariants.{Nothing, Part}
 use Rattle.answers.specs.Numbers.{number_of, values_of}
 use Rattle.house.specs.declared.Row.{Row}
 use Rattle.digits.specs.Digits.{digits}
@@ -63,14 +61,14 @@ abbrev pub said : List ℕ → ℕ → List ℕ
 said words n = numbered words n ++ line_feed ∷ []
 
 -- #101: a refusal that names a part ends in `, head H site S`
-abbrev pub ending : Values → List ℕ
-ending Nothing = line_feed ∷ []
-ending (Part head site) = numbered head_word head ++ said site_word site
+abbrev pub ending : (Option (ℕ × ℕ)) → List ℕ
+ending None = line_feed ∷ []
+ending (Some (head, site)) = numbered head_word head ++ said site_word site
 
-abbrev pub at_ending : ℕ → Values → List ℕ
+abbrev pub at_ending : ℕ → (Option (ℕ × ℕ)) → List ℕ
 at_ending k v = numbered at_record k ++ ending v
 
-abbrev pub refusal : ℕ → Values → ℕ → List ℕ
+abbrev pub refusal : ℕ → (Option (ℕ × ℕ)) → ℕ → List ℕ
 refusal n v k = numbered refused_word n ++ at_ending k v
 
 abbrev pub refused_line : Answer → ℕ → List ℕ

@@ -2,14 +2,14 @@
 // it is lent; a row's line goes to an offset.
 #![tactic(auto)]
 
-ghost use Rattle.std.specs.Prelude.{◌+◌, ◌≤◌, length};
+ghost use Rattle.std.specs.Prelude.{◌+◌, ◌≤◌, Some, length};
 ghost use Rattle.answers.specs.Numbers.{OfBytes};
 ghost use Rattle.output.specs.Placed.{Put, Room};
 ghost use Rattle.tally_lines.specs.Lines.{numbered, said, ending, at_ending, refusal, refused_line, too_long_line};
 ghost use Rattle.tally_lines.specs.Lines.{unfinished_line, row_line};
 ghost use Rattle.tally_lines.specs.Writing.{cell, two_cells, cells, hbr_line, most_line, most_refused, PutLine, LaidAt};
 
-use answers::{Answer, Values};
+use answers::Answer;
 use digits::put_digits;
 use house::Row;
 use line_laying::put_tag;
@@ -37,25 +37,25 @@ fn put_said(out: &mut [u8], words: &[u8], n: u64) -> usize
 
 // `, head H site S`
 fn put_open_part(out: &mut [u8], head: u8, site: u8) -> usize
-    requires { Room (ending (Values.Part head site)) out.old }
-    ensures { Put (ending (Values.Part head site)) out.old result out.new }
+    requires { Room (ending (Some (head, site))) out.old }
+    ensures { Put (ending (Some (head, site))) out.old result out.new }
 {
     let k = put_numbered(out, b", head ", head as u64);
     k + put_said(&mut out[k..], b" site ", site as u64)
 }
 
 // How a refusal ends: with the part that it names, if it names one.
-fn put_ending(out: &mut [u8], values: Values) -> usize
+fn put_ending(out: &mut [u8], values: Option<(u8, u8)>) -> usize
     requires { Room (ending values) out.old }
     ensures { Put (ending values) out.old result out.new }
 {
     match values {
-        Values::Nothing => put_byte(out, b'\n'),
-        Values::Part(head, site) => put_open_part(out, head, site),
+        None => put_byte(out, b'\n'),
+        Some((head, site)) => put_open_part(out, head, site),
     }
 }
 
-fn put_record(out: &mut [u8], k: u64, values: Values) -> usize
+fn put_record(out: &mut [u8], k: u64, values: Option<(u8, u8)>) -> usize
     requires { Room (at_ending k values) out.old }
     ensures { Put (at_ending k values) out.old result out.new }
 {
@@ -63,7 +63,7 @@ fn put_record(out: &mut [u8], k: u64, values: Values) -> usize
     n + put_ending(&mut out[n..], values)
 }
 
-fn put_refusal(out: &mut [u8], number: u8, values: Values, k: u64) -> usize
+fn put_refusal(out: &mut [u8], number: u8, values: Option<(u8, u8)>, k: u64) -> usize
     requires { (most_refused ≤ length out.old) × OfBytes values }
     ensures { Put (refusal number values k) out.old result out.new }
 {

@@ -1,11 +1,11 @@
 -- The statements of specs/Laws.antt, proved; of the text that the calls tell, in proofs/Told.antt.
 -- Assumes nothing.
+use Rattle.std.specs.Prelude.{Some}
 use mathlib.Core.Path.{◌≡◌, ap, ◌∙◌}
 use mathlib.Core.List.{List, []}
 use Prim.Native.Nat.{ℕ}
 use Rattle.cutting.proofs.Walks.{walked_stops}
 use Rattle.walking.specs.declared.Stop.{Stop}
-use Rattle.walking.specs.declared.Fate.TheVariants.{Stopped}
 use Rattle.following.specs.Following.{Reached, reached, hearing, Progress, followed, begun}
 use Rattle.following.proofs.Laws.{followed_chunks, followed_all_lem}
 use Rattle.tallying.specs.Text.{ended}
@@ -14,7 +14,7 @@ use Rattle.tallying.specs.Laws.{TallyChunks, TallyStopped}
 pub tally_chunks : TallyChunks
 tally_chunks chunks = ap ended (followed_all_lem chunks)
 
-stopped_text : (p : Progress) (why : Stop) (more : List ℕ) → p.fate ≡ Stopped why
+stopped_text : (p : Progress) (why : Stop) (more : List ℕ) → p.fate ≡ Some why
     → ended (followed p more) ≡ ended p
 unfolding ended
 stopped_text p why more e =

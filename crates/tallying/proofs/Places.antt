@@ -1,5 +1,6 @@
 -- Where an accepted record leaves a stream: in the byte order that was told, and at its end exactly if it is an MRR.
 -- Assumes nothing.
+use Rattle.std.specs.Prelude.{Some, None}
 use mathlib.Core.Path.{◌≡◌, refl, ap, sym, subst, ◌∙◌}
 use mathlib.Core.Bool.{Bool, true, false, false≢true}
 use mathlib.Core.List.{List}
@@ -12,7 +13,6 @@ use Rattle.kinds.specs.Kinds.{kind_of}
 use Rattle.frames.specs.Frames.{rec_typ, rec_sub}
 use Rattle.order.specs.declared.Place.{Place}
 use Rattle.order.specs.declared.Place.TheVariants.{Start, Header, Lot, Setup, Body, Ended}
-use Rattle.order.specs.declared.Step.TheVariants.{To, OutOfPlace}
 use Rattle.order.specs.Order.{goes}
 use Rattle.order.specs.Laws.{ended as is_ended}
 use Rattle.order.proofs.Laws.{by_word, ended_by_mrr, never_start}
@@ -43,13 +43,13 @@ mrr_kind =
     (λ e. absurd (false≢true e)) (λ e. absurd (false≢true e))
     (λ e. refl)
 
-nowhere : (q : Place) → OutOfPlace ≡ To q → is_ended q ≡ true
+nowhere : (q : Place) → None ≡ Some q → is_ended q ≡ true
 nowhere q e = let never : ◌≡◌ {A = ℕ} 0 1 = cc in absurd (omega arith)
 
-there : (q : Place) → To Ended ≡ To q → is_ended q ≡ true
+there : (q : Place) → Some Ended ≡ Some q → is_ended q ≡ true
 there q e = let same : Ended ≡ q = cc in subst (λ (p : Place). is_ended p ≡ true) same refl
 
-mrr_ends : (p q : Place) → goes p Mrr ≡ To q → is_ended q ≡ true
+mrr_ends : (p q : Place) → goes p Mrr ≡ Some q → is_ended q ≡ true
 mrr_ends Start q e = nowhere q e
 mrr_ends Header q e = nowhere q e
 mrr_ends Lot q e = there q e
@@ -57,7 +57,7 @@ mrr_ends Setup q e = there q e
 mrr_ends Body q e = there q e
 mrr_ends Ended q e = nowhere q e
 
-ended_mrr : (p q : Place) (k : Kind) → goes p k ≡ To q → is_ended q ≡ is_mrr k
+ended_mrr : (p q : Place) (k : Kind) → goes p k ≡ Some q → is_ended q ≡ is_mrr k
 ended_mrr p q k to = go (is_ended q) refl (is_mrr k) refl
   where
     go : (a : Bool) → is_ended q ≡ a → (b : Bool) → is_mrr k ≡ b → a ≡ b

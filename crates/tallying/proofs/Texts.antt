@@ -1,5 +1,6 @@
 -- Laws of the text that ends a stream: that the rows' lines follow each other, and what each ending is.
 -- Assumes nothing.
+use Rattle.std.specs.Prelude.{Some, None}
 use mathlib.Core.Path.{◌≡◌, refl, ap, sym, ◌∙◌}
 use mathlib.Core.Bool.{Bool}
 use mathlib.Core.List.{List, [], ◌∷◌, ◌++◌, append_assoc}
@@ -18,7 +19,6 @@ use Rattle.tally_lines.specs.Lines.{row_line, refused_line, too_long_line}
 use Rattle.tally_lines.specs.Writing.{LaidAt}
 use Rattle.walking.specs.declared.Stop.{Stop}
 use Rattle.walking.specs.declared.Stop.TheVariants.{Refused, TooLong}
-use Rattle.walking.specs.declared.Fate.TheVariants.{Going, Stopped}
 use Rattle.following.specs.declared.Stream.{Stream}
 use Rattle.following.specs.Following.{standing}
 use Rattle.tallying.specs.Text.{row_lines, stopped_line, left_over, closing, ended_with, ended}
@@ -97,12 +97,12 @@ module _ (why : Stop) (k : ℕ) where
   stopped_long e = rw e
 
 module _ (s : Stream) (buf : List ℕ) where
-  pub ended_going : s.fate ≡ Going
+  pub ended_going : s.fate ≡ None
       → ended_with (stream_house s) s.accepted (take s.held buf) ≡ ended (progress_of s buf)
   unfolding ended
   ended_going e = rw e
 
-  pub ended_stopped : (why : Stop) → s.fate ≡ Stopped why
+  pub ended_stopped : (why : Stop) → s.fate ≡ Some why
       → stopped_line why (s.accepted + 1) ≡ ended (progress_of s buf)
   unfolding ended
   ended_stopped why e = rw e

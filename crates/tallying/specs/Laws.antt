@@ -5,11 +5,10 @@
 --   TallyStopped  what stops a stream decides its text: no byte behind it does
 --   TallyTold     it is the text that the calls and their answers tell
 -- Assumes nothing.
-use Rattle.std.specs.Prelude.{◌≡◌, List, ◌++◌, ℕ}
+use Rattle.std.specs.Prelude.{◌≡◌, List, ◌++◌, ℕ, Some}
 use Rattle.numbers.specs.Laws.{Bytes}
 use Rattle.cutting.specs.Walk.{joined}
 use Rattle.walking.specs.declared.Stop.{Stop}
-use Rattle.walking.specs.declared.Fate.TheVariants.{Stopped}
 use Rattle.following.specs.Following.{followed, begun}
 use Rattle.following.specs.Laws.{followed_all}
 use Rattle.tallying.specs.Text.{ended, tally_text}
@@ -19,7 +18,7 @@ abbrev pub TallyChunks : Type 0
 TallyChunks = (chunks : List (List ℕ)) → ended (followed_all begun chunks) ≡ tally_text (joined chunks)
 
 abbrev pub TallyStopped : Type 0
-TallyStopped = (bytes more : List ℕ) (why : Stop) → (followed begun bytes).fate ≡ Stopped why
+TallyStopped = (bytes more : List ℕ) (why : Stop) → (followed begun bytes).fate ≡ Some why
     → tally_text (bytes ++ more) ≡ tally_text bytes
 
 -- no word of a house, a session or a walk: records cut by their headers, calls, answers and the rows of a report

@@ -5,7 +5,7 @@
 --   ended         the text of a stream that was followed so far and goes no further
 --   tally_text     the whole program: the text of all bytes
 -- Assumes nothing.
-use Rattle.std.specs.Prelude.{ℕ, zero, suc, ◌+◌, Bool, true, false, cond, List, [], ◌∷◌, ◌++◌}
+use Rattle.std.specs.Prelude.{ℕ, zero, suc, ◌+◌, Bool, true, false, cond, List, [], ◌∷◌, ◌++◌, Option, Some, None}
 use Rattle.answers.specs.declared.Answer.{Answer}
 use Rattle.answers.specs.declared.Answer.TheVariants.{NotOneRecord}
 use Rattle.order.specs.Laws.{ended as is_ended}
@@ -17,8 +17,6 @@ use Rattle.house.specs.Report.{row_at, reported}
 use Rattle.tally_lines.specs.Lines.{row_line, refused_line, too_long_line, unfinished_line}
 use Rattle.walking.specs.declared.Stop.{Stop}
 use Rattle.walking.specs.declared.Stop.TheVariants.{Refused, TooLong}
-use Rattle.walking.specs.declared.Fate.{Fate}
-use Rattle.walking.specs.declared.Fate.TheVariants.{Going, Stopped}
 use Rattle.following.specs.Following.{Progress, standing, followed, begun}
 
 -- after an accepted MRR, one HBR line for each row in report order
@@ -48,9 +46,9 @@ stopped_line (Refused a) k = refused_line a k
 stopped_line TooLong k = too_long_line k
 
 -- K from 1: the record behind those accepted
-abbrev pub ended_by : Fate → Progress → List ℕ
-ended_by Going p = ended_with p.house p.accepted p.held
-ended_by (Stopped why) p = stopped_line why (p.accepted + 1)
+abbrev pub ended_by : (Option Stop) → Progress → List ℕ
+ended_by None p = ended_with p.house p.accepted p.held
+ended_by (Some why) p = stopped_line why (p.accepted + 1)
 
 unfoldable pub ended : Progress → List ℕ
 ended p = ended_by p.fate p

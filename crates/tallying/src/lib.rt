@@ -20,7 +20,7 @@ use reports::list_rows;
 use session::{Session, is_start, verdict_answer};
 use soundness::is_sound;
 use tally_lines::{put_refused, put_row, put_too_long, put_unfinished};
-use walking::{Fate, Stop};
+use walking::Stop;
 
 // The house that a stream's rows and session stand for.
 fn house_of(s: Stream) -> House
@@ -127,7 +127,7 @@ pub fn finish(s: Stream, buf: &[u8], out: &mut [u8]) -> usize
 {
     let fate = s.fate;
     match fate {
-        Fate::Going => finish_going(s, buf, out),
-        Fate::Stopped(why) => put_stopped(out, why, s.accepted),
+        None => finish_going(s, buf, out),
+        Some(why) => put_stopped(out, why, s.accepted),
     }
 }

@@ -5,7 +5,7 @@
 
 mod names;
 
-use answers::{Answer, Values};
+use answers::Answer;
 use digits::put_digits;
 pub use names::{say_cell, say_kind, say_kind_wide, say_place};
 use std::io;
@@ -22,10 +22,10 @@ pub fn say_number(rt: &impl Print, n: u64) -> io::Result<()> {
 }
 
 // What an answer carries, each of its values behind a space.
-fn say_carried(rt: &impl Print, values: Values) -> io::Result<()> {
+fn say_carried(rt: &impl Print, values: Option<(u8, u8)>) -> io::Result<()> {
     match values {
-        Values::Nothing => Ok(()),
-        Values::Part(head, site) => {
+        None => Ok(()),
+        Some((head, site)) => {
             say(rt, b" ")?;
             say_number(rt, head as u64)?;
             say(rt, b" ")?;

@@ -1,5 +1,6 @@
 -- Laws of values and of their rules, as the functions' proofs cite them: one an answer, each under the tests before it.
 -- Assumes nothing.
+use Rattle.std.specs.Prelude.{Some, None}
 use mathlib.Core.Path.{◌≡◌}
 use mathlib.Core.Bool.{Bool, true, false, ◌&&◌}
 use mathlib.Core.List.{List}
@@ -11,24 +12,22 @@ use lib.Dec.{eqb}
 use lib.ListN.{length, get_or}
 use Rattle.numbers.specs.declared.Order.{Order}
 use Rattle.numbers.specs.Numbers.{number, front}
-use Rattle.values.specs.declared.Optional.TheVariants.{Value, Missing}
-use Rattle.values.specs.declared.Naming.TheVariants as naming
 use Rattle.values.specs.Values.{most_bin, no_bin, all_sites, no_count, count_at, pass_fail_at, name_at}
 use Rattle.values.specs.Values.{soft_bin_fits, pass_fail_fits, part_head_fits}
 
 -- ---- optional fields
 
 module _ (order : Order) (body : List ℕ) (at : ℕ) where
-  pub count_cut : length body < at + 4 → count_at order body at ≡ Missing
+  pub count_cut : length body < at + 4 → count_at order body at ≡ None
   unfolding count_at
   count_cut h = rw (lt-leb (at + 4) (length body) h)
 
   module _ (n : ℕ) (h : at + 4 ≤ length body) (is : n ≡ number order (front 4 at body)) where
-    pub count_none : n ≡ no_count → count_at order body at ≡ Missing
+    pub count_none : n ≡ no_count → count_at order body at ≡ None
     unfolding count_at
     count_none e = rw (le-leb (at + 4) (length body) h, ← is, eq-eqb n no_count e)
 
-    pub count_value : (n ≡ no_count → ⊥) → count_at order body at ≡ Value n
+    pub count_value : (n ≡ no_count → ⊥) → count_at order body at ≡ Some n
     unfolding count_at
     count_value e = rw (le-leb (at + 4) (length body) h, ← is, ne_eqb n no_count e)
 
@@ -47,11 +46,11 @@ module _ (order : Order) (body : List ℕ) (at : ℕ) where
 
 module _ (body : List ℕ) (at : ℕ) where
   module _ (h : length body ≤ at) where
-    pub pf_cut : pass_fail_at body at ≡ Missing
+    pub pf_cut : pass_fail_at body at ≡ None
     unfolding pass_fail_at
     pf_cut = rw (lt-leb (at + 1) (length body) (omega arith))
 
-    pub name_cut : name_at body at ≡ naming.Missing
+    pub name_cut : name_at body at ≡ None
     unfolding name_at
     name_cut = rw (lt-leb (at + 1) (length body) (omega arith))
 
@@ -60,20 +59,20 @@ module _ (body : List ℕ) (at : ℕ) where
     pf_fits_cut = rw (lt-leb (at + 1) (length body) (omega arith))
 
   module _ (h : at < length body) where
-    pub pf_space : get_or body at 0 ≡ code " " → pass_fail_at body at ≡ Missing
+    pub pf_space : get_or body at 0 ≡ code " " → pass_fail_at body at ≡ None
     unfolding pass_fail_at
     pf_space e = rw (le-leb (at + 1) (length body) (omega arith), eq-eqb (get_or body at 0) (code " ") e)
 
-    pub pf_value : (get_or body at 0 ≡ code " " → ⊥) → pass_fail_at body at ≡ Value (get_or body at 0)
+    pub pf_value : (get_or body at 0 ≡ code " " → ⊥) → pass_fail_at body at ≡ Some (get_or body at 0)
     unfolding pass_fail_at
     pf_value e = rw (le-leb (at + 1) (length body) (omega arith), ne_eqb (get_or body at 0) (code " ") e)
 
-    pub name_empty : get_or body at 0 ≡ 0 → name_at body at ≡ naming.Missing
+    pub name_empty : get_or body at 0 ≡ 0 → name_at body at ≡ None
     unfolding name_at
     name_empty e = rw (le-leb (at + 1) (length body) (omega arith), eq-eqb (get_or body at 0) 0 e)
 
     pub name_value : (get_or body at 0 ≡ 0 → ⊥)
-        → name_at body at ≡ naming.Value (record { at = at + 1; len = get_or body at 0 })
+        → name_at body at ≡ Some (record { at = at + 1; len = get_or body at 0 })
     unfolding name_at
     name_value e = rw (le-leb (at + 1) (length body) (omega arith), ne_eqb (get_or body at 0) 0 e)
 

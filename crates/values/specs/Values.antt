@@ -5,14 +5,11 @@
 --   count_at, pass_fail_at, name_at        an optional field: its value, or missing
 --   bin_fits, soft_bin_fits, pass_fail_fits, flag_fits, part_head_fits   the value rules, each 7 if broken
 -- Assumes nothing.
-use Rattle.std.specs.Prelude.{ℕ, ◌+◌, ◌%◌, Bool, cond, not, ◌||◌, List, eqb, leb, length, get_or}
+use Rattle.values.specs.declared.Name.{Name}
+use Rattle.std.specs.Prelude.{ℕ, ◌+◌, ◌%◌, Bool, cond, not, ◌||◌, List, eqb, leb, length, get_or, Option, Some, None}
 use Prim.Native.Char.{code}
 use Rattle.numbers.specs.declared.Order.{Order}
 use Rattle.numbers.specs.Numbers.{number, front}
-use Rattle.values.specs.declared.Optional.{Optional}
-use Rattle.values.specs.declared.Optional.TheVariants.{Value, Missing}
-use Rattle.values.specs.declared.Naming.{Naming}
-use Rattle.values.specs.declared.Naming.TheVariants as naming
 
 -- bins 0 to 32,767
 abbrev pub most_bin : ℕ
@@ -38,24 +35,24 @@ abbrev pub no_count : ℕ
 no_count = 4_294_967_295
 
 -- Missing: cut off, or 4,294,967,295
-unfoldable pub count_at : Order → List ℕ → ℕ → Optional
+unfoldable pub count_at : Order → List ℕ → ℕ → Option ℕ
 count_at order body at =
     let n = number order (front 4 at body) in
-    cond (present 4 at body) (cond (eqb n no_count) Missing (Value n)) Missing
+    cond (present 4 at body) (cond (eqb n no_count) None (Some n)) None
 
 -- Missing: cut off, or P/F a space; else the byte itself
-unfoldable pub pass_fail_at : List ℕ → ℕ → Optional
+unfoldable pub pass_fail_at : List ℕ → ℕ → Option ℕ
 pass_fail_at body at =
     let c = get_or body at 0 in
-    cond (present 1 at body) (cond (eqb c (code " ")) Missing (Value c)) Missing
+    cond (present 1 at body) (cond (eqb c (code " ")) None (Some c)) None
 
 -- Missing: cut off, or of length 0; else its place and its length
-unfoldable pub name_at : List ℕ → ℕ → Naming
+unfoldable pub name_at : List ℕ → ℕ → Option Name
 name_at body at =
     let n = get_or body at 0 in
     cond (present 1 at body)
-    (cond (eqb n 0) naming.Missing (naming.Value (record { at = at + 1; len = n })))
-    naming.Missing
+    (cond (eqb n 0) None (Some (record { at = at + 1; len = n })))
+    None
 
 abbrev pub bin_fits : ℕ → Bool
 bin_fits n = leb n most_bin

@@ -20,25 +20,11 @@ pub const ALL_SITES: u8 = 255;
 // A count of all ones is missing.
 const NO_COUNT: u32 = 4294967295;
 
-// An optional field: a number, or missing.
-#[derive(Clone, Copy)]
-pub enum Optional {
-    Value(u32),
-    Missing,
-}
-
 // A name in a body: where its first byte stands, and how many it has.
 #[derive(Clone, Copy)]
 pub struct Name {
     pub at: usize,
     pub len: usize,
-}
-
-// An optional name.
-#[derive(Clone, Copy)]
-pub enum Naming {
-    Value(Name),
-    Missing,
 }
 
 // The number is read in both orders and one is picked: a test of the order before each number costs more than reading.
@@ -63,50 +49,42 @@ pub fn u4_at(order: Order, body: &[u8], at: usize) -> u32
 }
 
 // The optional count at an offset: missing where it is cut off or all ones.
-pub fn count_at(order: Order, body: &[u8], at: usize) -> Optional
+pub fn count_at(order: Order, body: &[u8], at: usize) -> Option<u32>
     ensures { result ≡ count_at order body.now at }
 {
     if body.len() <= at {
-        return Optional::Missing;
+        return None;
     }
     if body.len() - at < 4 {
-        return Optional::Missing;
+        return None;
     }
     let n = u4_at(order, body, at);
-    if n == NO_COUNT {
-        Optional::Missing
-    } else {
-        Optional::Value(n)
-    }
+    if n == NO_COUNT { None } else { Some(n) }
 }
 
 // The optional P/F at an offset: missing where it is cut off or a space.
-pub fn pass_fail_at(body: &[u8], at: usize) -> Optional
+pub fn pass_fail_at(body: &[u8], at: usize) -> Option<u32>
     ensures { result ≡ pass_fail_at body.now at }
 {
     if body.len() <= at {
-        return Optional::Missing;
+        return None;
     }
     let c = body[at];
-    if c == b' ' {
-        Optional::Missing
-    } else {
-        Optional::Value(c as u32)
-    }
+    if c == b' ' { None } else { Some(c as u32) }
 }
 
 // The optional name whose count byte stands at an offset: missing where it is cut off or empty.
-pub fn name_at(body: &[u8], at: usize) -> Naming
+pub fn name_at(body: &[u8], at: usize) -> Option<Name>
     ensures { result ≡ name_at body.now at }
 {
     if body.len() <= at {
-        return Naming::Missing;
+        return None;
     }
     let n = body[at];
     if n == 0 {
-        Naming::Missing
+        None
     } else {
-        Naming::Value(Name {
+        Some(Name {
             at: at + 1,
             len: n as usize,
         })

@@ -1,5 +1,6 @@
 -- Laws of one step of a walk over a chunk: a record accepted, refused, too long, or not whole.
 -- Assumes nothing.
+use Rattle.std.specs.Prelude.{Option, Some, None}
 use mathlib.Core.Path.{◌≡◌, refl, ap, sym, ◌∙◌, subst}
 use mathlib.Core.Bool.{Bool, true, false, true≢false}
 use mathlib.Core.List.{List, [], ◌++◌}
@@ -27,8 +28,6 @@ use Rattle.cutting.proofs.Walks.{walked_append, walked_stops}
 use Rattle.cutting.proofs.Cuts.{needed_some, cut_record, cut_waits, cut_alone, cut_heard, cut_long}
 use Rattle.walking.specs.declared.Stop.{Stop}
 use Rattle.walking.specs.declared.Stop.TheVariants.{Refused, TooLong}
-use Rattle.walking.specs.declared.Fate.{Fate}
-use Rattle.walking.specs.declared.Fate.TheVariants.{Going, Stopped}
 use Rattle.walking.specs.declared.Stage.{Stage}
 use Rattle.walking.specs.Walking.{Progress, progress, standing, heard, delivering, stage_standing, stage_progress}
 use Rattle.walking.specs.Walking.{stage, rest, ends_by}
@@ -70,7 +69,7 @@ refused_same room c rec o is not =
     ∙ settled_same room c v (λ e. not (ap (λ (x : Outcome). number_of x.answer) told ∙ ap number_of e))
 
 -- what has stopped does not go on
-never_going : {why : Stop} → Stopped why ≡ Going → ⊥
+never_going : {why : Stop} → Some why ≡ None → ⊥
 never_going e = let no : ◌≡◌ {A = ℕ} 0 1 = cc in omega arith
 
 module _ (k : ℕ) (o : Outcome) where
@@ -105,7 +104,7 @@ module _ (room : Room) (most : ℕ) (keys counts parts : List ℕ) (s : Stage) (
   module _ (n : ℕ) (is : n ≡ needed (stage_standing s) (rest s bytes)) where
     -- ---- a record at which the walk stays
 
-    module _ (fate : Fate) where
+    module _ (fate : Option Stop) where
       stays : Walkable room most keys counts parts (stage s.used (stage_standing s) s.accepted fate s.at false)
           bytes
       stays =
@@ -113,7 +112,7 @@ module _ (room : Room) (most : ℕ) (keys counts parts : List ℕ) (s : Stage) (
 
       stayed : ends_by fate most (stage_progress keys counts parts s) (rest s bytes)
           ≡ leads room most keys counts parts s bytes
-          → (fate ≡ Going → length (rest s bytes) < most) → {r : Stage}
+          → (fate ≡ None → length (rest s bytes) < most) → {r : Stage}
           → r ≡ stage s.used (stage_standing s) s.accepted fate s.at false
           → Stepped room most keys counts parts s keys counts parts r bytes
       stayed same few told =
@@ -125,12 +124,12 @@ module _ (room : Room) (most : ℕ) (keys counts parts : List ℕ) (s : Stage) (
 
     -- it is not whole
     pub step_short : n ≤ most → length bytes - s.at < n → {r : Stage}
-        → r ≡ stage s.used (stage_standing s) s.accepted Going s.at false
+        → r ≡ stage s.used (stage_standing s) s.accepted None s.at false
         → Stepped room most keys counts parts s keys counts parts r bytes
     step_short low short =
         let p = stage_progress keys counts parts s in
         let whole = cut_record most (stage_standing s) (rest s bytes) (omega (arith, is, low)) in
-        stayed Going
+        stayed None
         (sym
         (looks
         ∙ cut_waits Progress Stop standing most TooLong _ p (rest s bytes) w.takes
@@ -139,11 +138,11 @@ module _ (room : Room) (most : ℕ) (keys counts parts : List ℕ) (s : Stage) (
 
     -- it is too long
     pub step_long : most < n → {r : Stage}
-        → r ≡ stage s.used (stage_standing s) s.accepted (Stopped TooLong) s.at false
+        → r ≡ stage s.used (stage_standing s) s.accepted (Some TooLong) s.at false
         → Stepped room most keys counts parts s keys counts parts r bytes
     step_long long =
         let p = stage_progress keys counts parts s in
-        stayed (Stopped TooLong)
+        stayed (Some TooLong)
         (sym
         (looks
         ∙ cut_long Progress Stop standing most TooLong _ p (rest s bytes) w.takes (omega (arith, is, long))))
@@ -206,7 +205,7 @@ module _ (room : Room) (most : ℕ) (keys counts parts : List ℕ) (s : Stage) (
 
         pub step_accepted : number_of a ≡ 0
             → Stepped room most keys counts parts s ks cs ps
-            (stage used st (s.accepted + 1) Going (s.at + n) true) bytes
+            (stage used st (s.accepted + 1) None (s.at + n) true) bytes
         step_accepted e =
             let p = stage_progress keys counts parts s in
             let q = progress (core ks cs used st ps) (s.accepted + 1) in
@@ -230,7 +229,7 @@ module _ (room : Room) (most : ℕ) (keys counts parts : List ℕ) (s : Stage) (
             }
 
         pub step_refused : (number_of a ≡ 0 → ⊥) → {r : Stage}
-            → r ≡ stage used st s.accepted (Stopped (Refused a)) s.at false
+            → r ≡ stage used st s.accepted (Some (Refused a)) s.at false
             → Stepped room most keys counts parts s ks cs ps r bytes
         step_refused not told =
             let p = stage_progress keys counts parts s in

@@ -1,5 +1,6 @@
 -- Laws of a PTR, MPR or FTR in the body: its body is not read, so it is accepted and changes nothing.
 -- Assumes nothing.
+use Rattle.std.specs.Prelude.{Some, None}
 use mathlib.Core.Path.{◌≡◌, refl, ap, sym, ◌∙◌}
 use mathlib.Core.Bool.{Bool, true, false, ◌&&◌, ◌||◌, false≢true}
 use mathlib.Core.List.{List}
@@ -22,7 +23,6 @@ use Rattle.bodies.specs.declared.Record.TheVariants as said
 use Rattle.bodies.specs.Bodies.{read_body}
 use Rattle.order.specs.declared.Place.{Place}
 use Rattle.order.specs.declared.Place.TheVariants.{Start, Header, Lot, Setup, Body, Ended}
-use Rattle.order.specs.declared.Step.TheVariants.{To}
 use Rattle.order.specs.Order.{goes}
 use Rattle.session.specs.declared.Standing.{Standing}
 use Rattle.session.specs.declared.Verdict.TheVariants.{Taken}
@@ -37,7 +37,6 @@ use Rattle.house.specs.Deliver.{outcome, core, delivered}
 use Rattle.house.proofs.Delivering.{delivered_stands}
 use Rattle.cutting.specs.Needed.{needed}
 use Rattle.cutting.proofs.Cuts.{needed_later, needed_some, whole_needed}
-use Rattle.walking.specs.declared.Fate.TheVariants.{Going}
 use Rattle.walking.specs.declared.Stage.{Stage}
 use Rattle.walking.specs.Walking.{stage, stage_standing, rest}
 use Rattle.walking.specs.Passing.{is_body, is_test}
@@ -88,7 +87,7 @@ module _ (st : Standing) (parts rec : List ℕ) (inside : st.place ≡ Body) (fr
     unfolding read_body
     passed k is =
         let further : is_start st.place ≡ false = rw inside in
-        let to : goes st.place (kind.Remaining k) ≡ To Body = rw inside in
+        let to : goes st.place (kind.Remaining k) ≡ Some Body = rw inside in
         judged_later st parts rec further
         ∙ later_said st parts rec framed (kind.Remaining k) is refl Body to said.Unread refl
         ∙ ap (λ (s : Standing). Taken (stands s)) same
@@ -168,7 +167,7 @@ module _ (room : Room) (most : ℕ) (keys counts parts : List ℕ) (s : Stage) (
         (both_left (eqb sub 10 || (eqb sub 15 || eqb sub 20)) (is_body s.place) behind))
 
     pub step_test : Stepped room most keys counts parts s keys counts parts
-        (stage s.used (stage_standing s) (s.accepted + 1) Going (s.at + n) true) bytes
+        (stage s.used (stage_standing s) (s.accepted + 1) None (s.at + n) true) bytes
     step_test =
         let st = stage_standing s in
         let size : s.at + n - s.at ≡ n = omega arith in

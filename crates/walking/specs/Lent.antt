@@ -3,15 +3,13 @@
 --   Lendable   what is lent may be lent to a delivery, however far the walk goes
 --   Walkable   what a walk asks for;  Arrived  what it comes to
 -- Assumes nothing.
-use Rattle.std.specs.Prelude.{◌≡◌, Bool, true, false, cond, List, [], ℕ, ◌+◌, ◌-◌, ◌≤◌, ◌<◌, length}
+use Rattle.std.specs.Prelude.{◌≡◌, Bool, true, false, cond, List, [], ℕ, ◌+◌, ◌-◌, ◌≤◌, ◌<◌, length, Option, None}
 use Rattle.numbers.specs.Laws.{Bytes}
 use Rattle.house.specs.declared.Room.{Room}
 use Rattle.house.specs.Deliver.{LentCore}
 use Rattle.cutting.specs.Needed.{first_length}
 use Rattle.cutting.specs.Walk.{Walked, Waits, walked, state_of}
 use Rattle.walking.specs.declared.Stop.{Stop}
-use Rattle.walking.specs.declared.Fate.{Fate}
-use Rattle.walking.specs.declared.Fate.TheVariants.{Going}
 use Rattle.walking.specs.declared.Stage.{Stage}
 use Rattle.walking.specs.Walking.{Progress, delivering, stage_progress, rest, ends_by}
 
@@ -42,13 +40,13 @@ pub record Arrived (room : Room) (most : ℕ) (keys counts parts : List ℕ) (s 
       ≡ walked (delivering room most) (Waits (stage_progress keys counts parts s) []) (rest s bytes)
   pub lends : Lendable room most (stage_progress ks cs ps r)
   pub within : r.at ≤ length bytes
-  pub few : r.fate ≡ Going → length (rest r bytes) < most
+  pub few : r.fate ≡ None → length (rest r bytes) < most
   pub fits : r.accepted + (length bytes - r.at) ≤ s.accepted + (length bytes - s.at)
 
 -- ---- step after step
 
 -- where a stage leads: if there is more to look at, to the end of a walk over the bytes left
-abbrev pub leads_by : Bool → Room → ℕ → Fate → Progress → List ℕ → Walked Progress Stop
+abbrev pub leads_by : Bool → Room → ℕ → (Option Stop) → Progress → List ℕ → Walked Progress Stop
 leads_by true room most fate p bytes = walked (delivering room most) (Waits p []) bytes
 leads_by false room most fate p bytes = ends_by fate most p bytes
 
@@ -65,7 +63,7 @@ pub record Onward (room : Room) (most : ℕ) (keys counts parts : List ℕ) (s :
     (bytes : List ℕ) : Type 0 where
   pub kept : Walkable room most ks cs ps r bytes
   pub same : leads room most ks cs ps r bytes ≡ leads room most keys counts parts s bytes
-  pub few : r.more ≡ false → r.fate ≡ Going → length (rest r bytes) < most
+  pub few : r.more ≡ false → r.fate ≡ None → length (rest r bytes) < most
   pub fits : r.accepted + (length bytes - r.at) ≤ s.accepted + (length bytes - s.at)
 
 pub record Stepped (room : Room) (most : ℕ) (keys counts parts : List ℕ) (s : Stage) (ks cs ps : List ℕ) (r : Stage)

@@ -4,7 +4,7 @@
 --   delivering   each record is delivered to the slot that sees this room; one of more than `most` bytes is too long
 --   ends_by       how far a stream was walked, as a stage of the walk tells it
 -- Assumes nothing.
-use Rattle.std.specs.Prelude.{Bool, cond, List, ℕ, ◌+◌, eqb, take, drop}
+use Rattle.std.specs.Prelude.{Bool, cond, List, ℕ, ◌+◌, eqb, take, drop, Option, Some, None}
 use Rattle.answers.specs.Numbers.{number_of}
 use Rattle.session.specs.declared.Standing.{Standing}
 use Rattle.house.specs.declared.Room.{Room}
@@ -13,8 +13,6 @@ use Rattle.cutting.specs.Needed.{cut}
 use Rattle.cutting.specs.Walk.{Heard, Kept, Turned, Machine, Walked, Waits, Stops, cutting}
 use Rattle.walking.specs.declared.Stop.{Stop}
 use Rattle.walking.specs.declared.Stop.TheVariants.{Refused, TooLong}
-use Rattle.walking.specs.declared.Fate.{Fate}
-use Rattle.walking.specs.declared.Fate.TheVariants.{Going, Stopped}
 use Rattle.walking.specs.declared.Stage.{Stage}
 
 pub record Progress : Type 0 where
@@ -37,7 +35,7 @@ delivering room most = cutting standing most TooLong (λ p r. heard p.accepted (
 
 -- ---- a stage of the walk
 
-abbrev pub stage : ℕ → Standing → ℕ → Fate → ℕ → Bool → Stage
+abbrev pub stage : ℕ → Standing → ℕ → (Option Stop) → ℕ → Bool → Stage
 stage used st k fate at more =
     record {
       used = used;
@@ -73,8 +71,8 @@ abbrev pub rest : Stage → List ℕ → List ℕ
 rest s bytes = drop s.at bytes
 
 -- they are those of a record that is not whole; or they begin with the record that stopped the walk
-abbrev pub ends_by : Fate → ℕ → Progress → List ℕ → Walked Progress Stop
-ends_by Going most p bytes = Waits p bytes
-ends_by (Stopped why) most p bytes =
+abbrev pub ends_by : (Option Stop) → ℕ → Progress → List ℕ → Walked Progress Stop
+ends_by None most p bytes = Waits p bytes
+ends_by (Some why) most p bytes =
     let n = cut most (standing p) bytes in
     Stops p (take n bytes) why (drop n bytes)

@@ -18,13 +18,6 @@ pub enum Stop {
     TooLong,
 }
 
-// What has become of a stream.
-#[derive(Clone, Copy)]
-pub enum Fate {
-    Going,
-    Stopped(Stop),
-}
-
 // Where the walk over the records of a chunk stands, but for rows, guesses and parts, which are lent: `at` is where the
 // next record begins, or the one that stopped the walk, and `more` whether it is to be looked at. The session's
 // standing is held field by field: copied whole, with the unused bytes between its fields, it costs more than all else
@@ -39,7 +32,7 @@ pub struct Stage {
     pub results: u32,
     pub wafers: usize,
     pub accepted: u64,
-    pub fate: Fate,
+    pub fate: Option<Stop>,
     pub at: usize,
     pub more: bool,
 }

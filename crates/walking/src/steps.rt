@@ -5,7 +5,7 @@ ghost use Rattle.walking.specs.Walking.{stage, stage_standing, rest};
 ghost use Rattle.walking.specs.Lent.{Walkable, Stepped, Arrived};
 
 use crate::passing::is_test;
-use crate::{Fate, Stage, Stop};
+use crate::{Stage, Stop};
 use cutting::needed;
 use house::Room;
 use lent::deliver_lent;
@@ -31,7 +31,7 @@ pub fn stage_of(
     used: usize,
     st: Standing,
     accepted: u64,
-    fate: Fate,
+    fate: Option<Stop>,
     at: usize,
     more: bool,
 ) -> Stage
@@ -55,7 +55,7 @@ pub fn stage_of(
 }
 
 // No further: at a record that is not whole, or that stops the walk.
-fn stay(s: Stage, fate: Fate) -> Stage
+fn stay(s: Stage, fate: Option<Stop>) -> Stage
     ensures { result ≡ stage s.used (stage_standing s) s.accepted fate s.at false }
 {
     let place = s.place;
@@ -120,13 +120,13 @@ fn take_record(
             results: st.results,
             wafers: st.wafers,
             accepted: s.accepted + 1,
-            fate: Fate::Going,
+            fate: None,
             at: next,
             more: true,
         };
     }
     let why = Stop::Refused(answer);
-    stage_of(d.used, st, s.accepted, Fate::Stopped(why), at, false)
+    stage_of(d.used, st, s.accepted, Some(why), at, false)
 }
 
 // The record at `at`, if it is there whole.
@@ -151,10 +151,10 @@ fn step(
     let n = needed(standing_of(s), &bytes[at..end]);
     if most < n {
         let why = Stop::TooLong;
-        return stay(s, Fate::Stopped(why));
+        return stay(s, Some(why));
     }
     if end - at < n {
-        return stay(s, Fate::Going);
+        return stay(s, None);
     }
     if is_test(place, bytes[at + 2], bytes[at + 3]) {
         return Stage {
@@ -166,7 +166,7 @@ fn step(
             results: s.results,
             wafers: s.wafers,
             accepted: s.accepted + 1,
-            fate: Fate::Going,
+            fate: None,
             at: at + n,
             more: true,
         };

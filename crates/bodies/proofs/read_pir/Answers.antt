@@ -1,6 +1,7 @@
 -- `bodies::read_pir` meets its contract: a body that fits has the bytes that are read, since its required fields are
 -- there.
 -- Assumes nothing.
+use Rattle.std.specs.Prelude.{Some}
 use mathlib.Core.Path.{ap, sym, ◌∙◌}
 use Rattle.prelude.proofs.Both.{both_left}
 use Rattle.fields.specs.Tables.{fits_body, pir}
@@ -8,7 +9,6 @@ use Rattle.fields.proofs.Laws.{required_there}
 use Rattle.part_bodies.specs.Parts.{pir_values_fit}
 use Rattle.part_bodies.specs.declared.Pir.{Pir}
 use Rattle.bodies.specs.declared.Record.TheVariants as body
-use Rattle.bodies.specs.declared.Reading.TheVariants.{Fits}
 use Rattle.bodies.proofs.Laws.{read_fits, read_misfit}
 use Rattle.bodies.proofs.read_pir.Goals as goal
 
@@ -21,7 +21,7 @@ pir_of-requires c =
 
 pub returns-then-fits_pir : goal.returns-then-fits_pir
 returns-then-fits_pir c =
-    ap (λ (x : Pir). Fits (body.Pir x)) c.pir_of.ensures
+    ap (λ (x : Pir). Some (body.Pir x)) c.pir_of.ensures
     ∙ read_fits _ (sym c.fits_pir.ensures ∙ c.if-fits_pir.true)
 
 pub returns-else-fits_pir : goal.returns-else-fits_pir

@@ -1,6 +1,7 @@
 -- `bodies::read_prr` meets its contract: a body that fits has the bytes that are read, since its required fields are
 -- there.
 -- Assumes nothing.
+use Rattle.std.specs.Prelude.{Some}
 use mathlib.Core.Path.{ap, sym, ◌∙◌}
 use Rattle.prelude.proofs.Both.{both_left}
 use Rattle.fields.specs.Tables.{fits_body, prr}
@@ -8,7 +9,6 @@ use Rattle.fields.proofs.Laws.{required_there}
 use Rattle.part_bodies.specs.Parts.{prr_values_fit}
 use Rattle.part_bodies.specs.declared.Prr.{Prr}
 use Rattle.bodies.specs.declared.Record.TheVariants as body
-use Rattle.bodies.specs.declared.Reading.TheVariants.{Fits}
 use Rattle.bodies.proofs.Laws.{read_fits, read_misfit}
 use Rattle.bodies.proofs.read_prr.Goals as goal
 
@@ -21,7 +21,7 @@ prr_of-requires c =
 
 pub returns-then-fits_prr : goal.returns-then-fits_prr
 returns-then-fits_prr c =
-    ap (λ (x : Prr). Fits (body.Prr x)) c.prr_of.ensures
+    ap (λ (x : Prr). Some (body.Prr x)) c.prr_of.ensures
     ∙ read_fits _ (sym c.fits_prr.ensures ∙ c.if-fits_prr.true)
 
 pub returns-else-fits_prr : goal.returns-else-fits_prr

@@ -1,6 +1,7 @@
 -- `bodies::read_wir` meets its contract: a body that fits has the bytes that are read, since its required fields are
 -- there.
 -- Assumes nothing.
+use Rattle.std.specs.Prelude.{Some}
 use mathlib.Core.Path.{◌≡◌, ap, sym, ◌∙◌}
 use mathlib.Core.Bool.{true}
 use native.Mathlib.Omega.{arith}
@@ -9,7 +10,6 @@ use Rattle.fields.specs.Tables.{fits_body, wir}
 use Rattle.fields.proofs.Laws.{required_there}
 use Rattle.bodies.specs.declared.Wafer.{Wafer}
 use Rattle.bodies.specs.declared.Record.TheVariants as body
-use Rattle.bodies.specs.declared.Reading.TheVariants.{Fits}
 use Rattle.bodies.proofs.Laws.{read_fits, read_misfit}
 use Rattle.bodies.proofs.read_wir.Goals as goal
 
@@ -22,7 +22,7 @@ wafer_of-requires c =
 pub returns-then-fits_table : goal.returns-then-fits_table
 unfolding type_of
 returns-then-fits_table c =
-    ap (λ (w : Wafer). Fits (body.Wir w)) c.wafer_of.ensures ∙ read_fits _ (let fits' : fits_body c.args.order wir c.args.body.now ≡ true = sym c.fits_table.ensures ∙ c.if-fits_table.true in fits')
+    ap (λ (w : Wafer). Some (body.Wir w)) c.wafer_of.ensures ∙ read_fits _ (let fits' : fits_body c.args.order wir c.args.body.now ≡ true = sym c.fits_table.ensures ∙ c.if-fits_table.true in fits')
 
 pub returns-else-fits_table : goal.returns-else-fits_table
 unfolding type_of

@@ -1,12 +1,12 @@
 -- `digits::read_number` meets its contract: what is left of the text says what the whole said, behind the digits
 -- passed.
 -- Assumes nothing.
+use Rattle.std.specs.Prelude.{Some}
 use mathlib.Core.Path.{◌≡◌, refl, sym, ap, ◌∙◌}
 use mathlib.Core.Bool.{true}
 use Prim.Native.Nat.{ℕ, ◌-◌, ◌<◌}
 use native.Mathlib.Omega.{arith}
 use lib.ListN.{length, get_or}
-use Rattle.digits.specs.declared.Numeral.TheVariants.{Value}
 use Rattle.prelude.proofs.Each.{each_ends, each_fails, each_on}
 use Rattle.digits.specs.Digits.{is_digit}
 use Rattle.digits.proofs.Laws.{numeral_empty, numeral_long, numeral_no, numeral_value, decimal_on}
@@ -66,6 +66,6 @@ pub returns : goal.returns
 returns c =
     let s = c.args.s.now in
     let i = c.loop-i.i in
-    ap Value (sym (c.loop-i.invariant.3 ∙ decimal_ends s i c.loop-i.n (omega arith)))
+    ap Some (sym (c.loop-i.invariant.3 ∙ decimal_ends s i c.loop-i.n (omega arith)))
     ∙ numeral_value s c.if-s-lt1.false c.if-s-gt10.false
     (c.loop-i.invariant.2 ∙ each_ends ℕ is_digit s i 0 (omega arith))

@@ -6,10 +6,10 @@ use Rattle.input.proofs.take_part.Goals as goal
 
 pub overflow_add-result : goal.overflow_add-result
 overflow_add-result c =
-    let laid = placed_within _ _ _ _ _ _ c.gather.ensures c.in-Bytes.is in
+    let laid = placed_within _ _ _ _ _ _ c.gather.ensures c.in-Ok.is in
     omega (arith, laid)
 
-pub returns-in-Bytes : goal.returns-in-Bytes
-returns-in-Bytes c =
-    let laid = placed_within _ _ _ _ _ _ c.gather.ensures c.in-Bytes.is in
+pub returns-in-Ok : goal.returns-in-Ok
+returns-in-Ok c =
+    let laid = placed_within _ _ _ _ _ _ c.gather.ensures c.in-Ok.is in
     omega (arith, laid, c.gather.auto)

@@ -1,6 +1,7 @@
 -- `later_records::judge_later` meets its contract: each return is one case of `judge_later`, in the order of the
 -- checks. A record that passed the first has its header, so its type, subtype and body may be read.
 -- Assumes nothing.
+use Rattle.std.specs.Prelude.{Some}
 use mathlib.Core.Path.{subst, ◌≡◌, ap, sym, ◌∙◌}
 use mathlib.Core.Bool.{true}
 use native.Mathlib.Omega.{arith}
@@ -12,7 +13,6 @@ use Rattle.session.specs.Session.{LentParts}
 use Rattle.kind_effects.specs.Effects.{judge_said}
 use Rattle.later_records.proofs.Laws.{lent_at, later_frame, later_unknown, later_out, later_misfit, later_said}
 use Rattle.kinds.specs.Kinds.{known}
-use Rattle.order.specs.declared.Step.TheVariants.{To}
 use Rattle.order.specs.Order.{goes}
 use Rattle.frames.proofs.Laws.{record_header}
 use Rattle.later_records.proofs.judge_later.Goals as goal
@@ -50,7 +50,7 @@ pub returns-in_default-reading : goal.returns-in_default-reading
 returns-in_default-reading c =
     sym
     (later_misfit _ _ _ (let framed' : let a = c.args in is_record a.st.order a.rec.now ≡ true = sym c.is_record.ensures ∙ c.if-not-is_record.false in framed') _ c.kind_of-kind.ensures (let known-there' : known c.kind_of-kind.result ≡ true = sym c.is_known.ensures ∙ c.if-not-is_known.false in known-there') _
-    (let stepped' : let a = c.args in goes a.st.place c.kind_of-kind.result ≡ To c.in-To.next = sym c.next_place-step.ensures ∙ c.in-To.is in stepped') (sym (let read' : let a = c.args in c.read_body-reading.result ≡ read_body a.st.order c.kind_of-kind.result (body a.rec.now) = let a = c.args in
+    (let stepped' : let a = c.args in goes a.st.place c.kind_of-kind.result ≡ Some c.in-Some.next = sym c.next_place-step.ensures ∙ c.in-Some.is in stepped') (sym (let read' : let a = c.args in c.read_body-reading.result ≡ read_body a.st.order c.kind_of-kind.result (body a.rec.now) = let a = c.args in
     c.read_body-reading.ensures
     ∙ ap (read_body a.st.order c.kind_of-kind.result) (part_from a.rec.now 4) in read') ∙ c.in_default-reading.is))
 
@@ -63,9 +63,9 @@ pub returns : goal.returns
 returns c =
     let a = c.args in
     c.judge_said.ensures
-    ∙ ap (λ (s : Standing). judge_said s a.parts.now c.in-Fits.said) c.placed.ensures
+    ∙ ap (λ (s : Standing). judge_said s a.parts.now c.in-Some.said) c.placed.ensures
     ∙ sym
     (later_said _ _ _ (let framed' : let a = c.args in is_record a.st.order a.rec.now ≡ true = sym c.is_record.ensures ∙ c.if-not-is_record.false in framed') _ c.kind_of-kind.ensures (let known-there' : known c.kind_of-kind.result ≡ true = sym c.is_known.ensures ∙ c.if-not-is_known.false in known-there') _
-    (let stepped' : let a = c.args in goes a.st.place c.kind_of-kind.result ≡ To c.in-To.next = sym c.next_place-step.ensures ∙ c.in-To.is in stepped') _ (sym (let read' : let a = c.args in c.read_body-reading.result ≡ read_body a.st.order c.kind_of-kind.result (body a.rec.now) = let a = c.args in
+    (let stepped' : let a = c.args in goes a.st.place c.kind_of-kind.result ≡ Some c.in-Some.next = sym c.next_place-step.ensures ∙ c.in-Some.is in stepped') _ (sym (let read' : let a = c.args in c.read_body-reading.result ≡ read_body a.st.order c.kind_of-kind.result (body a.rec.now) = let a = c.args in
     c.read_body-reading.ensures
-    ∙ ap (read_body a.st.order c.kind_of-kind.result) (part_from a.rec.now 4) in read') ∙ c.in-Fits.is))
+    ∙ ap (read_body a.st.order c.kind_of-kind.result) (part_from a.rec.now 4) in read') ∙ c.in-Some.is))

@@ -13,9 +13,9 @@ settle_parts-standing-requires c =
     let given = c.requires in
     (given.0.cells, given.1)
 
-pub returns-in-Rows : goal.returns-in-Rows
-returns-in-Rows c = (
-  resulted_rows _ _ _ _ _ c.row_key.ensures _ _ _ c.take_row.ensures.0 _ _ c.in-Rows.is
+pub returns-in-Some : goal.returns-in-Some
+returns-in-Some c = (
+  resulted_rows _ _ _ _ _ c.row_key.ensures _ _ _ c.take_row.ensures.0 _ _ c.in-Some.is
       c.settle_parts-standing.ensures,
   c.take_row.ensures.1
       ∙ result_noted c.args.room.slot (take c.args.used c.args.keys.now) c.args.key c.args.guesses.now
@@ -23,13 +23,13 @@ returns-in-Rows c = (
 )
 
 -- without a row all stands as it stood
-pub returns-in-NoRoom : goal.returns-in-NoRoom
-returns-in-NoRoom c =
+pub returns-in-None : goal.returns-in-None
+returns-in-None c =
     let a = c.args in
-    let stood = c.settle_parts-standing-in-NoRoom.ensures ∙ sym (changed_stands a.st a.parts.now refl) in (
+    let stood = c.settle_parts-standing-in-None.ensures ∙ sym (changed_stands a.st a.parts.now refl) in (
       ap (told answer.NoRoom _ _ a.used) stood
           ∙ resulted_none _ _ _ _ _ c.row_key.ensures _ _ _ c.take_row.ensures.0
-          c.in-NoRoom.is,
+          c.in-None.is,
       c.take_row.ensures.1
           ∙ result_noted c.args.room.slot (take c.args.used c.args.keys.now) c.args.key c.args.guesses.now
           c.cell_of.ensures c.row_key.ensures,

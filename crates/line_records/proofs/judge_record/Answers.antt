@@ -60,23 +60,23 @@ slice_bounds-walk-start c =
     is in
     whole
 
-pub returns-in-Known : goal.returns-in-Known
+pub returns-in-Some : goal.returns-in-Some
 unfolding record_line
-returns-in-Known c =
+returns-in-Some c =
     let is : is_record c.args.order c.args.«record».now ≡ true =
     sym c.is_record.ensures ∙ c.if-not-is_record.false in
     let a = c.args in
     let s = a.«record».now in
-    let tagged = rw c.kind_of.ensures at (sym c.count_tag.ensures ∙ c.in-Known.is) in
+    let tagged = rw c.kind_of.ensures at (sym c.count_tag.ensures ∙ c.in-Some.is) in
     rw (meaning_tagged a.order s is, tagged) (rw (part_from s 4) at c.walk.ensures)
 
-pub returns-in-Other : goal.returns-in-Other
-returns-in-Other c =
+pub returns-in-None : goal.returns-in-None
+returns-in-None c =
     let is : is_record c.args.order c.args.«record».now ≡ true =
     sym c.is_record.ensures ∙ c.if-not-is_record.false in
     let a = c.args in
     let s = a.«record».now in
-    let tagged = rw c.kind_of.ensures at (sym c.count_tag.ensures ∙ c.in-Other.is) in
-    rw c.refused_line-in-Other.ensures
+    let tagged = rw c.kind_of.ensures at (sym c.count_tag.ensures ∙ c.in-None.is) in
+    rw c.refused_line-in-None.ensures
     (held_refused (body s) (record_line a.order s) (meaning a.order s) UnknownKind
     (rw (meaning_tagged a.order s is, tagged)))

@@ -1,11 +1,11 @@
 -- `pouring::pour_all` meets its contract: every walk over the carry leads to the same end, with fewer bytes of the chunk ahead.
 -- Assumes nothing.
+use Rattle.std.specs.Prelude.{None}
 use mathlib.Core.Path.{◌≡◌, refl, sym, subst, ◌∙◌}
 use mathlib.Core.Bool.{false}
 use Prim.Native.Nat.{ℕ, ◌-◌, ◌<◌}
 use native.Mathlib.Omega.{arith}
 use lib.ListN.{length}
-use Rattle.walking.specs.declared.Fate.TheVariants.{Going}
 use Rattle.pouring.specs.Pouring.{goes_on}
 use Rattle.pouring.proofs.Pours.{pours_by, flow_begins, flow_first, goes_on_lem, flow_on}
 use Rattle.pouring.proofs.pour_all.Goals as goal
@@ -31,7 +31,7 @@ goes_on-requires c = tt
 pub pour_more-q-requires : goal.pour_more-q-requires
 pour_more-q-requires c =
     let inv = c.loop-keys.invariant in
-    let on = (let going' : (c.loop-keys.q.fate ≡ Going) × (c.loop-keys.q.at < length c.args.chunk.now) = goes_on_lem c.loop-keys.q (length c.args.chunk.now)
+    let on = (let going' : (c.loop-keys.q.fate ≡ None) × (c.loop-keys.q.at < length c.args.chunk.now) = goes_on_lem c.loop-keys.q (length c.args.chunk.now)
     (sym c.goes_on.ensures ∙ c.loop-keys-test.true) in going') in
     (inv.0.lends, inv.0.few on.0, on.1, inv.2)
 
@@ -43,7 +43,7 @@ loop-keys-smaller c =
 pub loop-keys-preserved : goal.loop-keys-preserved
 loop-keys-preserved c =
     let inv = c.loop-keys.invariant in
-    let on = (let going' : (c.loop-keys.q.fate ≡ Going) × (c.loop-keys.q.at < length c.args.chunk.now) = goes_on_lem c.loop-keys.q (length c.args.chunk.now)
+    let on = (let going' : (c.loop-keys.q.fate ≡ None) × (c.loop-keys.q.at < length c.args.chunk.now) = goes_on_lem c.loop-keys.q (length c.args.chunk.now)
     (sym c.goes_on.ensures ∙ c.loop-keys-test.true) in going') in (
       flow_on _ _ _ _ _ _ _ _ _ on.0 inv.0 c.pour_more-q.ensures,
       inv.1,

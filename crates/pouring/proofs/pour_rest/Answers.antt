@@ -13,14 +13,14 @@ pour_chunk-requires c = (c.requires.0, c.requires.1, c.requires.2)
 
 pub returns-then-p-eq0 : goal.returns-then-p-eq0
 returns-then-p-eq0 c =
-    none_held _ _ c.args.p c.args.carry.now c.args.chunk.now c.in-Going.is c.if-p-eq0.true c.pour_chunk.ensures
+    none_held _ _ c.args.p c.args.carry.now c.args.chunk.now c.in-None.is c.if-p-eq0.true c.pour_chunk.ensures
 
-pub returns-in-Stopped : goal.returns-in-Stopped
-returns-in-Stopped c =
+pub returns-in-Some : goal.returns-in-Some
+returns-in-Some c =
     let range : Bytes c.args.carry.now = λ k. omega (arith, c.slice_known-5-1.given k) in
     stop_pours _ _ _ _ _ c.args.p c.args.carry.now c.args.chunk.now c.requires.1 c.requires.3 c.requires.2
-    range c.in-Stopped.is c.stop_at.ensures
+    range c.in-Some.is c.stop_at.ensures
 
 pub returns-else-p-eq0 : goal.returns-else-p-eq0
 returns-else-p-eq0 c =
-    rest_pours _ _ c.args.p c.args.carry.now c.args.chunk.now c.requires.1 c.requires.3 c.in-Going.is c.if-p-eq0.false c.requires.4
+    rest_pours _ _ c.args.p c.args.carry.now c.args.chunk.now c.requires.1 c.requires.3 c.in-None.is c.if-p-eq0.false c.requires.4

@@ -3,5 +3,5 @@
 use Rattle.following.proofs.Carry.{stopped_stays}
 use Rattle.following.proofs.chunks.follow.Goals as goal
 
-pub returns-in-Stopped : goal.returns-in-Stopped
-returns-in-Stopped c = stopped_stays _ _ _ c.requires.0 _ c.in-Stopped.is
+pub returns-in-Some : goal.returns-in-Some
+returns-in-Some c = stopped_stays _ _ _ c.requires.0 _ c.in-Some.is

@@ -49,12 +49,12 @@ loop-j-preserved c =
     let a = c.args in
     let s = a.s.now in
     let j = c.loop-j.j in
-    let f = c.in-Says.found in
+    let f = c.in-Some.found in
     let col = get_or (columns a.tag) j no_column in
     let count = c.column_count-count.ensures in
     let inside : j < length (columns a.tag) = omega (arith, c.loop-j-test.true, count.0) in
     let room : j < length c.loop-j.fields = omega (arith, c.loop-j-test.true, count.1, c.loop-j.invariant.2) in
-    let g = rw (c.in-Says.is, c.column_at-column.ensures, c.bar_of-bar.ensures) at
+    let g = rw (c.in-Some.is, c.column_at-column.ensures, c.bar_of-bar.ensures) at
     c.step_at-step.ensures in
     let is : c.hide-said.result ≡ hidden_said col c.loop-j.gone f = rw c.column_at-column.ensures at
     c.hide-said.ensures in
@@ -66,10 +66,10 @@ loop-j-preserved c =
           (within_hidden s col c.loop-j.gone f (g.2 (short_column a.tag j inside)))),
       rw (c.is_missing-gone.ensures, is)
           (filled_on (bar a.tag) a.order (columns a.tag) s c.loop-j.fields c.loop-j.at c.loop-j.gone j
-          c.loop-j.invariant.4 inside f c.in-Says.next room g),
+          c.loop-j.invariant.4 inside f c.in-Some.next room g),
       rw (c.is_missing-gone.ensures, is)
           (placing_on a.order (columns a.tag) s c.loop-j.fields c.loop-j.at c.loop-j.gone j c.loop-j.invariant.5
-          inside f c.in-Says.next g.3 g.4 room),
+          inside f c.in-Some.next g.3 g.4 room),
     )
 
 pub returns-then-at-s : goal.returns-then-at-s

@@ -18,24 +18,24 @@ returns-then-not-is_unbroken c =
 pub judge_fields-requires : goal.judge_fields-requires
 judge_fields-requires c =
     tag_four c.args.s.now
-    c.in-Known.tag (sym c.tag_of.ensures ∙ c.in-Known.is)
+    c.in-Some.tag (sym c.tag_of.ensures ∙ c.in-Some.is)
 
-pub returns-in-Known : goal.returns-in-Known
+pub returns-in-Some : goal.returns-in-Some
 unfolding content_held
-returns-in-Known c =
+returns-in-Some c =
     let whole : unbroken c.args.s.now ≡ true =
     sym c.is_unbroken.ensures ∙ c.if-not-is_unbroken.false in
     let a = c.args in
-    let tagged = sym c.tag_of.ensures ∙ c.in-Known.is in
+    let tagged = sym c.tag_of.ensures ∙ c.in-Some.is in
     rw (content_tagged a.sep a.s.now whole, tagged)
     c.judge_fields.ensures
 
-pub returns-in-Other : goal.returns-in-Other
+pub returns-in-None : goal.returns-in-None
 unfolding content_held
-returns-in-Other c =
+returns-in-None c =
     let whole : unbroken c.args.s.now ≡ true =
     sym c.is_unbroken.ensures ∙ c.if-not-is_unbroken.false in
     let a = c.args in
-    let tagged = sym c.tag_of.ensures ∙ c.in-Other.is in
+    let tagged = sym c.tag_of.ensures ∙ c.in-None.is in
     rw (content_tagged a.sep a.s.now whole, tagged)
-    c.refused_line-in-Other.ensures
+    c.refused_line-in-None.ensures

@@ -1,6 +1,7 @@
 -- `numerals::decimals::number_of` meets its contract: what is left of the word says what the whole said, behind the
 -- digits passed, up to the greatest number.
 -- Assumes nothing.
+use Rattle.std.specs.Prelude.{Some}
 use mathlib.Core.Path.{◌≡◌, sym, ap, ◌∙◌}
 use Prim.Native.Nat.{ℕ, ◌+◌, ◌-◌, ◌*◌}
 use native.Mathlib.Omega.{arith}
@@ -8,7 +9,6 @@ use lib.ListN.{get_or, drop}
 use Rattle.prelude.proofs.Each.{each_ends, each_fails, each_on}
 use Rattle.digits.specs.Digits.{is_digit, decimal, decimal_from}
 use Rattle.digits.proofs.Laws.{decimal_on, decimal_ends}
-use Rattle.numerals.specs.declared.Number.TheVariants.{Is}
 use Rattle.numerals.specs.Decimals.{capped, most_number}
 use Rattle.numerals.proofs.DecimalLaws.{number_empty, number_no, number_is, digit_told, digit_not}
 use Rattle.numerals.proofs.DecimalLaws.{capped_low, capped_most, capped_on}
@@ -52,5 +52,5 @@ returns c =
     let all : capped most_number (decimal w) ≡ n =
     c.loop-i.invariant.3 ∙ ap (capped most_number) (decimal_ends w i n (omega arith))
     ∙ capped_low most_number n c.loop-i.invariant.1 in
-    ap Is (sym all)
+    ap Some (sym all)
     ∙ number_is w c.if-word-lt1.false (c.loop-i.invariant.2 ∙ each_ends ℕ is_digit w i 0 (omega arith))
