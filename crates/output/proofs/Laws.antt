@@ -1,5 +1,6 @@
 -- Laws of bytes placed: one writer after another, and the outcome at an offset.
 -- Assumes nothing.
+use Rattle.std.specs.Prelude.{Ok, Err}
 use mathlib.Core.Path.{◌≡◌, refl, ap, sym, ◌∙◌}
 use mathlib.Core.Bool.{Bool, true, false}
 use mathlib.Core.List.{List, [], ◌∷◌, ◌++◌, append_assoc, append-nil}
@@ -14,7 +15,6 @@ use lib.Seq.{length-take-le, take_at, drop_at}
 use Rattle.answers.specs.declared.Answer.{Answer}
 use Rattle.answers.specs.declared.Answer.TheVariants.{OutputTooShort}
 use Rattle.numbers.specs.Numbers.{over}
-use Rattle.output.specs.declared.Written.TheVariants.{Bytes, Refused}
 use Rattle.output.specs.Placed.{part, Room, Put, Outcome, outcome, refused, placed_at}
 
 -- ---- one byte more
@@ -111,7 +111,7 @@ module _ (bytes old : List ℕ) (at : ℕ) where
     place_room = simp (length-take, length-drop) (omega arith)
 
     pub place_done : (n : ℕ) (new : List ℕ) → Put bytes (take (length old - at) (drop at old)) n new
-        → outcome (Bytes n) (take at old ++ (new ++ drop (length old - at) (drop at old))) ≡ placed_at bytes old at
+        → outcome (Ok n) (take at old ++ (new ++ drop (length old - at) (drop at old))) ≡ placed_at bytes old at
     unfolding placed_at
     place_done n new e =
         rw (
@@ -123,12 +123,12 @@ module _ (bytes old : List ℕ) (at : ℕ) where
 -- ---- bytes that were placed stand at their offset
 
 pub refused_bytes : {A : Type 0} (answer : Answer) (old : List ℕ) (n : ℕ) (new : List ℕ)
-    → refused answer old ≡ outcome (Bytes n) new → A
+    → refused answer old ≡ outcome (Ok n) new → A
 refused_bytes answer old n new e =
-    let apart : Refused answer ≡ Bytes n = ap (λ (o : Outcome). o.answer) e in
+    let apart : Err answer ≡ Ok n = ap (λ (o : Outcome). o.answer) e in
     let never : ◌≡◌ {A = ℕ} 0 1 = cc in absurd (omega arith)
 
-pub placed_part : (bytes old : List ℕ) (at n : ℕ) (new : List ℕ) → placed_at bytes old at ≡ outcome (Bytes n) new
+pub placed_part : (bytes old : List ℕ) (at n : ℕ) (new : List ℕ) → placed_at bytes old at ≡ outcome (Ok n) new
     → part at n new ≡ bytes
 unfolding placed_at
 placed_part bytes old at n new e = go (leb (at + length bytes) (length old)) refl
@@ -138,9 +138,9 @@ placed_part bytes old at n new e = go (leb (at + length bytes) (length old)) ref
     go true f =
         let room = leb-true (at + length bytes) (length old) f in
         let rest = drop (at + length bytes) old in
-        let done : outcome (Bytes (length bytes)) (take at old ++ (bytes ++ rest)) ≡ outcome (Bytes n) new =
+        let done : outcome (Ok (length bytes)) (take at old ++ (bytes ++ rest)) ≡ outcome (Ok n) new =
         rw f at e in
-        let answers : Bytes (length bytes) ≡ Bytes n = ap (λ (o : Outcome). o.answer) done in
+        let answers : Ok (length bytes) ≡ Ok n = ap (λ (o : Outcome). o.answer) done in
         let size : length bytes ≡ n = cc in
         let all : take at old ++ (bytes ++ rest) ≡ new = ap (λ (o : Outcome). o.output) done in
         let front = length-take-le at old (omega arith) in

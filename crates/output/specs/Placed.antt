@@ -8,12 +8,10 @@
 --   Making     the bytes that a call makes, or what it is refused with before an output is looked at
 --   placed     the outcome of a call that makes bytes and places them
 -- Assumes nothing.
-use Rattle.std.specs.Prelude.{◌≡◌, cond, List, ◌++◌, ℕ, ◌+◌, ◌≤◌, leb, length, take, drop}
+use Rattle.std.specs.Prelude.{◌≡◌, cond, List, ◌++◌, ℕ, ◌+◌, ◌≤◌, leb, length, take, drop, Result, Ok, Err}
 use Rattle.answers.specs.declared.Answer.{Answer}
 use Rattle.answers.specs.declared.Answer.TheVariants.{OutputTooShort}
 use Rattle.numbers.specs.Numbers.{over}
-use Rattle.output.specs.declared.Written.{Written}
-use Rattle.output.specs.declared.Written.TheVariants.{Bytes, Refused}
 
 -- len bytes from place at on
 abbrev pub part : ℕ → ℕ → List ℕ → List ℕ
@@ -28,21 +26,21 @@ pub record Put (bytes old : List ℕ) (r : ℕ) (new : List ℕ) : Type 0 where
   pub laid : new ≡ over bytes old
 
 pub record Outcome : Type 0 where
-  pub answer : Written
+  pub answer : Result ℕ Answer
   pub output : List ℕ
 
-abbrev pub outcome : Written → List ℕ → Outcome
+abbrev pub outcome : (Result ℕ Answer) → List ℕ → Outcome
 outcome answer output = record { answer = answer; output = output }
 
 -- a refusal changes no byte
 abbrev pub refused : Answer → List ℕ → Outcome
-refused answer old = outcome (Refused answer) old
+refused answer old = outcome (Err answer) old
 
 -- the bytes stand at their offset, all other bytes stay; 17: output too short, or its starting place is past its end
 unfoldable pub placed_at : List ℕ → List ℕ → ℕ → Outcome
 placed_at bytes old at =
     cond (leb (at + length bytes) (length old))
-    (outcome (Bytes (length bytes)) (take at old ++ (bytes ++ drop (at + length bytes) old)))
+    (outcome (Ok (length bytes)) (take at old ++ (bytes ++ drop (at + length bytes) old)))
     (refused OutputTooShort old)
 
 pub data Making : Type 0 where
