@@ -70,6 +70,6 @@ number_of a = (saying_of a).0
 abbrev pub values_of : Answer → Option (ℕ × ℕ)
 values_of a = (saying_of a).1
 
-abbrev pub OfBytes : (Option (ℕ × ℕ)) → Type 0
+abbrev pub OfBytes : Option (ℕ × ℕ) → Type 0
 OfBytes None = Unit
 OfBytes (Some (head, site)) = (head < 256) × (site < 256)

@@ -32,25 +32,25 @@ in_four n = capped 4_294_967_295 n
 abbrev pub order_byte : ℕ → ℕ
 order_byte n = capped 255 n
 
-abbrev pub closing : (Option ℕ) → Asked
+abbrev pub closing : Option ℕ → Asked
 closing (Some slot) = Play (call.Close (in_four slot))
 closing None = NoCall
 
-abbrev pub opening : (Option ℕ) → (Option ℕ) → Asked
+abbrev pub opening : Option ℕ → Option ℕ → Asked
 opening (Some slot) (Some floor) = Play (call.Open (in_four slot) (in_four floor))
 opening (Some slot) None = NoCall
 opening None floor = NoCall
 
-abbrev pub reporting : (Option ℕ) → (Option ℕ) → Asked
+abbrev pub reporting : Option ℕ → Option ℕ → Asked
 reporting (Some slot) (Some long) = Play (call.Report (in_four slot) long)
 reporting (Some slot) None = NoCall
 reporting None long = NoCall
 
-abbrev pub delivering : (Option ℕ) → Bool → Asked
+abbrev pub delivering : Option ℕ → Bool → Asked
 delivering (Some slot) hex = NoCall unless hex then Play (call.Deliver (in_four slot))
 delivering None hex = NoCall
 
-abbrev pub ending : (Option ℕ) → Asked
+abbrev pub ending : Option ℕ → Asked
 ending (Some slot) = Play (call.End (in_four slot))
 ending None = NoCall
 
@@ -59,7 +59,7 @@ ending None = NoCall
 abbrev pub most_lent : ℕ
 most_lent = 65_540
 
-abbrev pub feeding : (Option ℕ) → (Option ℕ) → Bool → Asked
+abbrev pub feeding : Option ℕ → Option ℕ → Bool → Asked
 feeding (Some slot) (Some long) hex = NoCall unless hex then Play (call.Feed (in_four slot) (capped most_lent long))
 feeding (Some slot) None hex = NoCall
 feeding None long hex = NoCall
@@ -68,7 +68,7 @@ feeding None long hex = NoCall
 abbrev pub longest : ℕ
 longest = 4096
 
-abbrev pub lining : Way → (Option ℕ) → (Option ℕ) → (Option ℕ) → Bool → Asked
+abbrev pub lining : Way → Option ℕ → Option ℕ → Option ℕ → Bool → Asked
 lining way (Some order) (Some at) (Some long) hex =
     NoCall unless leb long longest then
     NoCall unless hex then

@@ -78,11 +78,11 @@ read_body order kind.Custom b = Some body.Unread
 read_body order kind.Unknown b = Some body.Unread
 
 -- 7: the body doesn't fit its kind
-abbrev pub fitting : (Option Record) → Bool
+abbrev pub fitting : Option Record → Bool
 fitting (Some r) = true
 fitting None = false
 
 -- what a body that fits says; asked only of one that does
-abbrev pub said_of : (Option Record) → Record
+abbrev pub said_of : Option Record → Record
 said_of (Some r) = r
 said_of None = body.Unread

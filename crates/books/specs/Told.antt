@@ -103,7 +103,7 @@ ValuesTold = (calls : List Call) (c : Call) → AllSent calls → Sent c
     → values_told calls c ≡ carried_by (history fresh calls) (number_told calls c) c
 
 -- what 12 names is a part that is open, and no open one precedes it
-abbrev pub Smallest : List Part → (Option (ℕ × ℕ)) → Type 0
+abbrev pub Smallest : List Part → Option (ℕ × ℕ) → Type 0
 Smallest parts None = ⊥
 Smallest parts (Some (head, site)) =
     (is_open parts head site ≡ true)

@@ -36,7 +36,7 @@ judge_in st rec order =
     Refused answer.WrongVersion unless eqb (byte_of far 1 (body rec)) 4 then
     Taken (stands (in_order st order))
 
-abbrev pub judge_ordered : Standing → List ℕ → (Option Order) → Verdict
+abbrev pub judge_ordered : Standing → List ℕ → Option Order → Verdict
 judge_ordered st rec None = Refused answer.UnknownOrder
 judge_ordered st rec (Some order) = judge_in st rec order
 
@@ -49,7 +49,7 @@ judge_first st rec =
     judge_ordered st rec (order_of (byte_of far 0 (body rec)))
 
 -- the byte order that a CPU_TYPE tells; asked only of one that tells any
-abbrev pub order_told : (Option Order) → Order
+abbrev pub order_told : Option Order → Order
 order_told (Some order) = order
 order_told None = HighFirst
 

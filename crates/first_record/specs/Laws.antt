@@ -19,7 +19,7 @@ use Rattle.session.specs.declared.Standing.{Standing}
 use Rattle.session.specs.Verdicts.{verdict_number}
 use Rattle.first_record.specs.First.{judge_first, order_in}
 
-abbrev pub is_known : (Option Order) → Bool
+abbrev pub is_known : Option Order → Bool
 is_known (Some order) = true
 is_known None = false
 

@@ -81,7 +81,7 @@ module _ (s : Stream) (buf : List ℕ) (got : ℕ) (right : Right s buf) (why : 
 -- ---- where a walk over what is lent stands, the house's walk stands
 
 -- the bytes that are held of those left
-abbrev held_of : (Option Stop) → List ℕ → List ℕ
+abbrev held_of : Option Stop → List ℕ → List ℕ
 held_of None left = left
 held_of (Some why) left = []
 

@@ -47,7 +47,7 @@ pub record Progress : Type 0 where
   pub fate : Option Stop
   pub held : List ℕ
 
-abbrev pub progress : House → ℕ → (Option Stop) → List ℕ → Progress
+abbrev pub progress : House → ℕ → Option Stop → List ℕ → Progress
 progress h k fate held = record { house = h; accepted = k; fate = fate; held = held }
 
 -- what stops a stream is final: no byte is kept
@@ -55,7 +55,7 @@ abbrev pub seen : Walked Reached Stop → Progress
 seen (Waits p part) = progress p.house p.accepted None part
 seen (Stops p r why rest) = progress p.house p.accepted (Some why) []
 
-abbrev pub resumed_by : (Option Stop) → Reached → List ℕ → Walked Reached Stop
+abbrev pub resumed_by : Option Stop → Reached → List ℕ → Walked Reached Stop
 resumed_by None p held = Waits p held
 resumed_by (Some why) p held = Stops p [] why []
 

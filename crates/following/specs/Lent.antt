@@ -72,6 +72,6 @@ abbrev pub staged : Stream → Stage
 staged s = stage s.used s.standing s.accepted None 0 true
 
 -- where the bytes begin that are held after it
-abbrev pub kept_from : (Option Stop) → ℕ → ℕ → ℕ
+abbrev pub kept_from : Option Stop → ℕ → ℕ → ℕ
 kept_from None at end = at
 kept_from (Some why) at end = end

@@ -42,7 +42,7 @@ use Rattle.house.proofs.Counting.{reached_shaped, keys_long}
 
 -- ---- what is answered
 
-abbrev plain : (Option (ℕ × ℕ)) → Bool
+abbrev plain : Option (ℕ × ℕ) → Bool
 plain None = true
 plain (Some (head, site)) = false
 

@@ -67,7 +67,7 @@ pub record Rowed : Type 0 where
   pub counts : List ℕ
   pub granting : Option ℕ
 
-abbrev pub rowed : List ℕ → List ℕ → (Option ℕ) → Rowed
+abbrev pub rowed : List ℕ → List ℕ → Option ℕ → Rowed
 rowed keys counts g = record { keys = keys; counts = counts; granting = g }
 
 -- one part more under a key, where it is granted
@@ -78,7 +78,7 @@ row_taken room keys counts used key =
     (rowed keys counts None)
 
 -- a part result: it changes its session only with its row, and room, 13, is judged last
-abbrev pub resulted : Rowed → ℕ → Session → Change → (Option ℕ) → Outcome
+abbrev pub resulted : Rowed → ℕ → Session → Change → Option ℕ → Outcome
 resulted r used s change (Some n) = told Done r.keys r.counts n (changed s change)
 resulted r used s change None = told answer.NoRoom r.keys r.counts used s
 

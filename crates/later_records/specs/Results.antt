@@ -28,7 +28,7 @@ result_in (said.Wir w) = None
 result_in (said.Wrr w) = None
 result_in said.Unread = None
 
-abbrev pub result_read : (Option Record) → Result
+abbrev pub result_read : Option Record → Result
 result_read (Some r) = result_in r
 result_read None = None
 

@@ -80,20 +80,20 @@ step_said ends c s at = cond (ltb at (length s)) (said_of (field_at ends c s at)
 abbrev pub step_next : Column → List ℕ → ℕ → ℕ
 step_next c s at = cond (ltb at (length s)) (at + size c.0 (drop at s)) at
 
-abbrev pub Stepped : Order → Column → List ℕ → ℕ → (Option (Said × ℕ)) → Type 0
+abbrev pub Stepped : Order → Column → List ℕ → ℕ → Option (Said × ℕ) → Type 0
 Stepped ends c s at None = field_at ends c s at ≡ Misfit
 Stepped ends c s at (Some (f, next)) =
     (field_at ends c s at ≡ Fits f) × (next ≡ at + size c.0 (drop at s)) × (next ≤ length s)
 
 -- a letter or a name is the same in either order, for each of their columns
-abbrev pub LetterStepped : List ℕ → ℕ → (Option (Said × ℕ)) → Type 0
+abbrev pub LetterStepped : List ℕ → ℕ → Option (Said × ℕ) → Type 0
 LetterStepped s at r = (ends : Order) (c : Column) → c.0 ≡ C1 → Stepped ends c s at r
 
-abbrev pub NameStepped : ℕ → List ℕ → ℕ → (Option (Said × ℕ)) → Type 0
+abbrev pub NameStepped : ℕ → List ℕ → ℕ → Option (Said × ℕ) → Type 0
 NameStepped most s at r = (ends : Order) (c : Column) → c.0 ≡ Cn → c.1 ≡ most → Stepped ends c s at r
 
 -- of the rest of a body of which k fields must still come
-abbrev pub Going : Order → Column → List ℕ → ℕ → ℕ → (Option (Said × ℕ)) → Type 0
+abbrev pub Going : Order → Column → List ℕ → ℕ → ℕ → Option (Said × ℕ) → Type 0
 Going ends c s k at None = (cs : List Column) → walked k ends (c ∷ cs) (drop at s) ≡ Misfit
 Going ends c s k at (Some (f, next)) =
     ((cs : List Column)
@@ -122,7 +122,7 @@ fields_from ends (c ∷ cs) s at gone =
 unfoldable pub line_at : Order → Tag → List ℕ → Line
 line_at ends tag s = record { tag = tag; fields = padded (fields_from ends (columns tag) s 0 true) }
 
-abbrev pub line_tagged : Order → (Option Tag) → List ℕ → Line
+abbrev pub line_tagged : Order → Option Tag → List ℕ → Line
 line_tagged ends (Some tag) s = line_at ends tag s
 line_tagged ends None s = no_line
 

@@ -42,7 +42,7 @@ abbrev pub body_means : Tag → Fit (List Entry) → Judging
 body_means tag (Fits es) = Says (record { tag = tag; entries = es })
 body_means tag Misfit = Faulty BodyMisfit
 
-abbrev pub tagged_means : (Option Tag) → Order → List ℕ → Judging
+abbrev pub tagged_means : Option Tag → Order → List ℕ → Judging
 tagged_means (Some tag) ends b = body_means tag (meant ends tag b)
 tagged_means None ends b = Faulty UnknownKind
 

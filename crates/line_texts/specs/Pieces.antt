@@ -38,7 +38,7 @@ gathered tag ps = arranged [] (back tag) ps
 -- ---- the rules of one piece
 
 -- #103: times 1 to 4,294,967,295 have dates
-abbrev pub dated_numeral : (Option ℕ) → Option ℕ
+abbrev pub dated_numeral : Option ℕ → Option ℕ
 dated_numeral (Some t) = Some t
 dated_numeral None = None
 
@@ -47,11 +47,11 @@ abbrev pub numeral_in : Form → List ℕ → Option ℕ
 numeral_in form p = cond (is_time form) (dated_numeral (date_of p)) (numeral p)
 
 -- in range
-abbrev pub number_fits : ℕ → (Option ℕ) → Bool
+abbrev pub number_fits : ℕ → Option ℕ → Bool
 number_fits most (Some n) = leb n most
 number_fits most None = false
 
-abbrev pub number_in : (Option ℕ) → Entry
+abbrev pub number_in : Option ℕ → Entry
 number_in (Some n) = Number n
 number_in None = Missing
 

@@ -48,7 +48,7 @@ places_in sep s tag = arranged no_place (back tag) (places_of sep s)
 
 -- ---- what they say
 
-abbrev pub number_said : (Option ℕ) → Said
+abbrev pub number_said : Option ℕ → Said
 number_said (Some n) = said.Number n
 number_said None = said.Missing
 
@@ -68,7 +68,7 @@ fields_in s (c ∷ cs) (n ∷ ns) = record { said = said_in c n.at (named s n) }
 unfoldable pub line_in : ℕ → List ℕ → Tag → Line
 line_in sep s tag = record { tag = tag; fields = padded (fields_in s (columns tag) (places_in sep s tag)) }
 
-abbrev pub line_tagged : ℕ → List ℕ → (Option Tag) → Line
+abbrev pub line_tagged : ℕ → List ℕ → Option Tag → Line
 line_tagged sep s (Some tag) = line_in sep s tag
 line_tagged sep s None = no_line
 

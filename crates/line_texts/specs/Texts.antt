@@ -62,7 +62,7 @@ fields_mean sep tag ps =
     not_aLine unless sits Missing (columns tag) (entries_in (columns tag) (gathered tag ps)) then
     Says (record { tag = tag; entries = entries_in (columns tag) (gathered tag ps) })
 
-abbrev pub tagged_means : ℕ → (Option Tag) → List ℕ → Judging
+abbrev pub tagged_means : ℕ → Option Tag → List ℕ → Judging
 tagged_means sep (Some tag) s = fields_mean sep tag (split sep (drop 4 s))
 tagged_means sep None s = not_aLine
 

@@ -64,7 +64,7 @@ longest_record = bodies.longest_record
 
 -- ---- a refusal
 
-abbrev wrote : (Result ℕ Answer) → Bool
+abbrev wrote : Result ℕ Answer → Bool
 wrote (Ok n) = true
 wrote (Err a) = false
 

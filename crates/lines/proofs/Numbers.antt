@@ -61,7 +61,7 @@ placed_number bytes old at = go (leb (at + length bytes) (length old))
 
 -- ---- 4
 
-order_number : (number : (Option Order) → ℕ) (checks : Order → List (Check ℕ)) → number None ≡ 4
+order_number : (number : Option Order → ℕ) (checks : Order → List (Check ℕ)) → number None ≡ 4
     → ((order : Order) → number (Some order) ≡ number_by (checks order))
     → (o : Option Order) → number o ≡ number_by (order_first o checks)
 order_number number checks none told None = none

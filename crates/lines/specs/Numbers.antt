@@ -30,19 +30,19 @@ use Rattle.line_texts.specs.Texts.{line_meaning}
 use Rattle.lines.specs.Writing.{line_written}
 use Rattle.lines.specs.Reading.{line_read}
 
-abbrev pub written_number : (Result ℕ Answer) → ℕ
+abbrev pub written_number : Result ℕ Answer → ℕ
 written_number (Ok n) = 0
 written_number (Err a) = number_of a
 
 -- ---- the checks
 
 -- 4 comes first: what is checked behind it is checked in the byte order that is told
-abbrev pub order_first : (Option Order) → (Order → List (Check ℕ)) → List (Check ℕ)
+abbrev pub order_first : Option Order → (Order → List (Check ℕ)) → List (Check ℕ)
 order_first (Some order) checks = (true else 4) ∷ checks order
 order_first None checks = (false else 4) ∷ []
 
 -- 6, when writing text: PCR, HBR and SBR have a line; #103, WIR and WRR too
-abbrev pub has_line : (Option Tag) → Bool
+abbrev pub has_line : Option Tag → Bool
 has_line (Some tag) = true
 has_line None = false
 

@@ -17,7 +17,7 @@ record_made order (Says m) = Makes (record_of order m)
 record_made order (Faulty answer) = Refuses answer
 
 -- 4 comes first
-abbrev pub record_in : (Option Order) → List ℕ → Making
+abbrev pub record_in : Option Order → List ℕ → Making
 record_in (Some order) line = record_made order (line_meaning line)
 record_in None line = Refuses UnknownOrder
 

@@ -33,7 +33,7 @@ text_made sep (Says m) =
 text_made sep (Faulty answer) = Refuses answer
 
 -- 4 comes first
-abbrev pub text_in : (Option Order) → List ℕ → Making
+abbrev pub text_in : Option Order → List ℕ → Making
 text_in (Some order) s = text_made separator (meaning order s)
 text_in None s = Refuses UnknownOrder
 

@@ -33,7 +33,7 @@ pub data Case : Type 0 where
   Asked : House → List Call → List ℕ → Case
   Reads : ℕ → List ℕ → Shown → Case
 
-abbrev pub read_into : (Result ℕ Answer) → List ℕ → Shown
+abbrev pub read_into : Result ℕ Answer → List ℕ → Shown
 read_into (Ok n) out = Wrote (part 0 n out)
 read_into (Err a) out = Refusal (number_of a)
 

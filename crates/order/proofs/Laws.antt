@@ -56,7 +56,7 @@ module _ (P : Kind → Type 0) (others : (k : Kind) → Other k → P k) where
 -- ---- steps that miss
 
 -- a step that leads nowhere, or to a place that fails a test
-abbrev misses : (Place → Bool) → (Option Place) → Bool
+abbrev misses : (Place → Bool) → Option Place → Bool
 misses test (Some p) = not (test p)
 misses test None = true
 

@@ -12,7 +12,7 @@ use Rattle.kinds.specs.declared.Kind.TheVariants.{Remaining, Custom, Unknown}
 use Rattle.order.specs.declared.Place.{Place}
 use Rattle.order.specs.declared.Place.TheVariants.{Start, Header, Lot, Setup, Body, Ended}
 
-abbrev pub by_kind : (Option Place) → (Option Place) → (Option Place) → (Option Place) → (Option Place) → (Option Place) → (Option Place) → Kind → Option Place
+abbrev pub by_kind : Option Place → Option Place → Option Place → Option Place → Option Place → Option Place → Option Place → Kind → Option Place
 by_kind far atr mir rdr sdr mrr other Far = far
 by_kind far atr mir rdr sdr mrr other Atr = atr
 by_kind far atr mir rdr sdr mrr other Mir = mir
@@ -45,7 +45,7 @@ goes Body k = by_kind out out out out out (Some Ended) (Some Body) k
 goes Ended k = out
 
 -- no record leaves the last place
-abbrev pub by_place : (Option Place) → (Option Place) → (Option Place) → (Option Place) → (Option Place) → Place → Option Place
+abbrev pub by_place : Option Place → Option Place → Option Place → Option Place → Option Place → Place → Option Place
 by_place start header lot setup body Start = start
 by_place start header lot setup body Header = header
 by_place start header lot setup body Lot = lot
@@ -54,11 +54,11 @@ by_place start header lot setup body Body = body
 by_place start header lot setup body Ended = out
 
 -- whether a step leads anywhere; where it does not, the refusal is 8
-abbrev pub in_place : (Option Place) → Bool
+abbrev pub in_place : Option Place → Bool
 in_place (Some p) = true
 in_place None = false
 
 -- where a step leads; asked only of one that leads somewhere
-abbrev pub place_after : (Option Place) → Place
+abbrev pub place_after : Option Place → Place
 place_after (Some p) = p
 place_after None = Ended

@@ -29,7 +29,7 @@ pub record Outcome : Type 0 where
   pub answer : Result ℕ Answer
   pub output : List ℕ
 
-abbrev pub outcome : (Result ℕ Answer) → List ℕ → Outcome
+abbrev pub outcome : Result ℕ Answer → List ℕ → Outcome
 outcome answer output = record { answer = answer; output = output }
 
 -- a refusal changes no byte

@@ -44,11 +44,11 @@ abbrev pub reason : Stop → Answer
 reason (Refused a) = a
 reason TooLong = NotOneRecord
 
-abbrev pub answer_of : (Option Stop) → Answer
+abbrev pub answer_of : Option Stop → Answer
 answer_of None = Done
 answer_of (Some why) = reason why
 
-abbrev pub ends_in : (Option Stop) → Core → List ℕ → Walked Core Answer
+abbrev pub ends_in : Option Stop → Core → List ℕ → Walked Core Answer
 ends_in None c bytes = Waits c bytes
 ends_in (Some why) c bytes =
     let n = cut longest c.standing bytes in
@@ -57,7 +57,7 @@ ends_in (Some why) c bytes =
 abbrev pub pour_core : List ℕ → List ℕ → List ℕ → Pour → Core
 pour_core keys counts parts p = core keys counts p.used p.standing parts
 
-abbrev pub is_going : (Option Stop) → Bool
+abbrev pub is_going : Option Stop → Bool
 is_going None = true
 is_going (Some why) = false
 
@@ -82,7 +82,7 @@ halted p long =
     }
 
 -- what is held of the bytes left of a chunk ends with it, or with the refused record
-abbrev pub held_to : (Option Stop) → Standing → List ℕ → ℕ → ℕ
+abbrev pub held_to : Option Stop → Standing → List ℕ → ℕ → ℕ
 held_to None st chunk from = length chunk
 held_to (Some why) st chunk from = from + smaller (needed st (drop from chunk)) (length chunk - from)
 

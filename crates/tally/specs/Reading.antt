@@ -43,12 +43,12 @@ pub record Heard (s : Stream) (buf : List ℕ) (read : ℕ) : Type 0 where
   pub is : progress_of s buf ≡ followed begun bytes
   pub count : length bytes ≡ read
 
-abbrev pub is_going : (Option Stop) → Bool
+abbrev pub is_going : Option Stop → Bool
 is_going None = true
 is_going (Some why) = false
 
 -- a stream that goes on is read to the end of the input
-abbrev pub AtEnd : (Option Stop) → Input → Type 0
+abbrev pub AtEnd : Option Stop → Input → Type 0
 AtEnd fate input = is_going fate ≡ true → more_after input.got input.read ≡ false
 
 pub record Through (e : Ended) (buf : List ℕ) : Type 0 where

@@ -61,14 +61,14 @@ abbrev pub said : List ℕ → ℕ → List ℕ
 said words n = numbered words n ++ line_feed ∷ []
 
 -- #101: a refusal that names a part ends in `, head H site S`
-abbrev pub ending : (Option (ℕ × ℕ)) → List ℕ
+abbrev pub ending : Option (ℕ × ℕ) → List ℕ
 ending None = line_feed ∷ []
 ending (Some (head, site)) = numbered head_word head ++ said site_word site
 
-abbrev pub at_ending : ℕ → (Option (ℕ × ℕ)) → List ℕ
+abbrev pub at_ending : ℕ → Option (ℕ × ℕ) → List ℕ
 at_ending k v = numbered at_record k ++ ending v
 
-abbrev pub refusal : ℕ → (Option (ℕ × ℕ)) → ℕ → List ℕ
+abbrev pub refusal : ℕ → Option (ℕ × ℕ) → ℕ → List ℕ
 refusal n v k = numbered refused_word n ++ at_ending k v
 
 abbrev pub refused_line : Answer → ℕ → List ℕ

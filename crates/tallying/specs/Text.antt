@@ -46,7 +46,7 @@ stopped_line (Refused a) k = refused_line a k
 stopped_line TooLong k = too_long_line k
 
 -- K from 1: the record behind those accepted
-abbrev pub ended_by : (Option Stop) → Progress → List ℕ
+abbrev pub ended_by : Option Stop → Progress → List ℕ
 ended_by None p = ended_with p.house p.accepted p.held
 ended_by (Some why) p = stopped_line why (p.accepted + 1)
 

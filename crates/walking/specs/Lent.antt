@@ -46,7 +46,7 @@ pub record Arrived (room : Room) (most : ℕ) (keys counts parts : List ℕ) (s 
 -- ---- step after step
 
 -- where a stage leads: if there is more to look at, to the end of a walk over the bytes left
-abbrev pub leads_by : Bool → Room → ℕ → (Option Stop) → Progress → List ℕ → Walked Progress Stop
+abbrev pub leads_by : Bool → Room → ℕ → Option Stop → Progress → List ℕ → Walked Progress Stop
 leads_by true room most fate p bytes = walked (delivering room most) (Waits p []) bytes
 leads_by false room most fate p bytes = ends_by fate most p bytes
 

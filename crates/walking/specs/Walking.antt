@@ -35,7 +35,7 @@ delivering room most = cutting standing most TooLong (λ p r. heard p.accepted (
 
 -- ---- a stage of the walk
 
-abbrev pub stage : ℕ → Standing → ℕ → (Option Stop) → ℕ → Bool → Stage
+abbrev pub stage : ℕ → Standing → ℕ → Option Stop → ℕ → Bool → Stage
 stage used st k fate at more =
     record {
       used = used;
@@ -71,7 +71,7 @@ abbrev pub rest : Stage → List ℕ → List ℕ
 rest s bytes = drop s.at bytes
 
 -- they are those of a record that is not whole; or they begin with the record that stopped the walk
-abbrev pub ends_by : (Option Stop) → ℕ → Progress → List ℕ → Walked Progress Stop
+abbrev pub ends_by : Option Stop → ℕ → Progress → List ℕ → Walked Progress Stop
 ends_by None most p bytes = Waits p bytes
 ends_by (Some why) most p bytes =
     let n = cut most (standing p) bytes in
