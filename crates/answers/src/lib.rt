@@ -1,6 +1,8 @@
 // The answers of every call: document 01, "Refusal numbers".
 #![tactic(auto)]
 
+mod display;
+
 ghost use Rattle.std.specs.Prelude.{◌≡◌, Some, ◌<◌};
 ghost use Rattle.answers.specs.Numbers.{saying_of, number_of, OfBytes};
 

@@ -1,6 +1,8 @@
 // Which kind of record a type and a subtype name: document 01, "Record frame and kinds".
 #![tactic(auto)]
 
+mod display;
+
 ghost use Rattle.std.specs.Prelude.{◌≡◌, ◌+◌, ◌*◌, ◌<◌};
 ghost use Rattle.kinds.specs.Kinds.{pairs, has_type, beyond_table, kind_of, known};
 

@@ -2,6 +2,8 @@
 // code reads the same table by columns, one for each kind.
 #![tactic(auto)]
 
+mod display;
+
 ghost use Rattle.std.specs.Prelude.{◌≡◌, Some, None};
 ghost use Rattle.order.specs.declared.Place.TheVariants.{Body};
 ghost use Rattle.order.specs.Order.{by_place, goes};
