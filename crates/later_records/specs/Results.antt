@@ -3,7 +3,8 @@
 --
 --   result_of    the part result that a record is, by its key, or none: PRR's head, site and hardware bin
 -- Assumes nothing.
-use Rattle.std.specs.Prelude.{ℕ, List, Option, Some, None}
+use Rattle.std.specs.Prelude.{ℕ, List, Option}
+use Rattle.std.specs.Prelude as std
 use Rattle.numbers.specs.declared.Order.{Order}
 use Rattle.kinds.specs.Kinds.{kind_of}
 use Rattle.frames.specs.Frames.{rec_typ, rec_sub, body}
@@ -29,8 +30,8 @@ result_in (said.Wrr w) = None
 result_in said.Unread = None
 
 abbrev pub result_read : Option Record → Result
-result_read (Some r) = result_in r
-result_read None = None
+result_read (std.Some r) = result_in r
+result_read std.None = None
 
 -- every accepted PRR counts as one part
 abbrev pub result_of : Order → List ℕ → Result

@@ -63,9 +63,9 @@ pub returns : goal.returns
 returns c =
     let a = c.args in
     c.judge_said.ensures
-    ∙ ap (λ (s : Standing). judge_said s a.parts.now c.in-Some.said) c.placed.ensures
+    ∙ ap (λ (s : Standing). judge_said s a.parts.now c.in-Some-reading.said) c.placed.ensures
     ∙ sym
     (later_said _ _ _ (let framed' : let a = c.args in is_record a.st.order a.rec.now ≡ true = sym c.is_record.ensures ∙ c.if-not-is_record.false in framed') _ c.kind_of-kind.ensures (let known-there' : known c.kind_of-kind.result ≡ true = sym c.is_known.ensures ∙ c.if-not-is_known.false in known-there') _
     (let stepped' : let a = c.args in goes a.st.place c.kind_of-kind.result ≡ Some c.in-Some.next = sym c.next_place-step.ensures ∙ c.in-Some.is in stepped') _ (sym (let read' : let a = c.args in c.read_body-reading.result ≡ read_body a.st.order c.kind_of-kind.result (body a.rec.now) = let a = c.args in
     c.read_body-reading.ensures
-    ∙ ap (read_body a.st.order c.kind_of-kind.result) (part_from a.rec.now 4) in read') ∙ c.in-Some.is))
+    ∙ ap (read_body a.st.order c.kind_of-kind.result) (part_from a.rec.now 4) in read') ∙ c.in-Some-reading.is))
