@@ -3,11 +3,14 @@
 // cut and where its bytes go is promised.
 #![tactic(auto)]
 
+mod each;
+
 ghost use Rattle.std.specs.Prelude.{◌≡◌, ◌≤◌, length};
 ghost use Rattle.output.specs.Placed.{outcome, placed_at};
 ghost use Rattle.input.specs.Lines.{up_to};
 
 use answers::Answer;
+pub use each::each_line;
 use output::put_part;
 use std::io::Read;
 
