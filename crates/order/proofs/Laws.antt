@@ -143,7 +143,3 @@ by_column Lot k = refl
 by_column Setup k = refl
 by_column Body k = refl
 by_column Ended k = refl
-
-pub column_of_lem : (p : Place) {k is : Kind} → k ≡ is
-    → by_place (goes Start is) (goes Header is) (goes Lot is) (goes Setup is) (goes Body is) p ≡ goes p k
-column_of_lem p {k} {is} e = rw e (by_column p is)

@@ -4,15 +4,14 @@
 
 mod display;
 
-ghost use Rattle.std.specs.Prelude.{◌≡◌, Some, None};
-ghost use Rattle.order.specs.declared.Place.TheVariants.{Body};
+ghost use Rattle.std.specs.Prelude.{◌≡◌};
 ghost use Rattle.order.specs.Order.{by_place, goes};
 
 use kinds::Kind;
 
 // Where a stream stands: before its FAR; in its header, behind the FAR and any ATRs; behind its MIR; behind an RDR or
 // SDR; in its body; behind its MRR.
-#[derive(Clone, Copy)]
+#[derive(Clone, Copy, PartialEq, Eq)]
 pub enum Place {
     Start,
     Header,
@@ -43,15 +42,6 @@ fn by_place(
     }
 }
 
-// Where a record takes a stream whose kind the order does not tell from others: to the body, or on in it.
-fn other_place(place: Place) -> Option<Place>
-    ensures { result ≡ by_place None None (Some Body) (Some Body) (Some Body) place }
-{
-    let out = None;
-    let body = Some(Place::Body);
-    by_place(out, out, body, body, body, place)
-}
-
 // Where the next record, of that kind, takes a stream that stands at the place. The kind is asked first: a caller has
 // just searched for it, so what is left to ask is one place.
 pub fn next_place(place: Place, kind: Kind) -> Option<Place>
@@ -61,6 +51,7 @@ pub fn next_place(place: Place, kind: Kind) -> Option<Place>
     let header = Some(Place::Header);
     let lot = Some(Place::Lot);
     let setup = Some(Place::Setup);
+    let body = Some(Place::Body);
     let ended = Some(Place::Ended);
     match kind {
         Kind::Far => by_place(header, out, out, out, out, place),
@@ -69,15 +60,6 @@ pub fn next_place(place: Place, kind: Kind) -> Option<Place>
         Kind::Rdr => by_place(out, out, setup, out, out, place),
         Kind::Sdr => by_place(out, out, setup, setup, out, place),
         Kind::Mrr => by_place(out, out, ended, ended, ended, place),
-        Kind::Pcr => other_place(place),
-        Kind::Hbr => other_place(place),
-        Kind::Sbr => other_place(place),
-        Kind::Pir => other_place(place),
-        Kind::Prr => other_place(place),
-        Kind::Wir => other_place(place),
-        Kind::Wrr => other_place(place),
-        Kind::Remaining(_) => other_place(place),
-        Kind::Custom => other_place(place),
-        Kind::Unknown => other_place(place),
+        _ => by_place(out, out, body, body, body, place),
     }
 }
