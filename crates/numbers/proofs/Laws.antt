@@ -3,21 +3,17 @@
 use mathlib.Core.Path.{◌≡◌, refl, ap, ◌∙◌}
 use mathlib.Core.Bool.{Bool, true, false}
 use mathlib.Core.List.{List, [], ◌∷◌, ◌++◌, reverse_aux, reverse-reverse}
-use Prim.Native.Nat.{ℕ, zero, suc, ◌+◌, ◌-◌, ◌*◌, ◌/◌, ◌%◌, ◌^◌, ◌≤◌, ◌<◌}
+use Prim.Native.Nat.{ℕ, zero, suc, ◌+◌, ◌*◌, ◌/◌, ◌%◌, ◌≤◌, ◌<◌}
 use native.Mathlib.Nat.{zero-add, add-zero, add-suc}
 use native.Mathlib.Omega.{arith}
-use borrow.Author.Tests.{le-ltb, ltb-true, ltb-false}
+use borrow.Author.Tests.{ltb-true, ltb-false}
 use lib.Dec.{ltb}
-use lib.IntN.{ℤ, pos, negsuc, ◌-ℤ◌}
 use lib.ListN.{length, get_or, take, drop, length-reverse, length-take, get_or-eq_default}
 use lib.Seq.{sets, sets-eq, get_or-take, get_or-drop}
-use mir.Syntax.{w16}
-use mir.Val.{SFits, to_z, of_z}
-use mir.Facts.{sfits_to_z, to_z_pos, to_z-of_z}
 use Rattle.prelude.proofs.Parts.{part_from}
 use Rattle.numbers.specs.declared.Order.{Order}
 use Rattle.numbers.specs.declared.Order.TheVariants.{HighFirst, LowFirst}
-use Rattle.numbers.specs.Numbers.{ordered, worth, front, bytes, written, over, past, signed}
+use Rattle.numbers.specs.Numbers.{ordered, worth, front, bytes, written, over, past}
 use Rattle.numbers.specs.Laws.{Bytes, ReadWritten, WrittenRead, LengthWritten, NumberBelow, FrontPart, PartBytes}
 
 -- ---- low byte first
@@ -88,6 +84,12 @@ front_part w k s =
     ap (front w 0) (part_from s k) ∙ front_drop_from w k 0 s
     ∙ rw (add-zero k)
 
+pub front_is : (w : ℕ) (s : List ℕ) → w ≤ length s → take w s ≡ front w 0 s
+front_is zero s h = refl
+front_is (suc w) [] h = absurd (omega arith)
+front_is (suc w) (b ∷ bs) h =
+    ap (λ (l : List ℕ). b ∷ l) (front_is w bs (omega arith) ∙ front_drop_from w 1 0 (b ∷ bs))
+
 -- past the end of a part there is 0
 pub part_bytes : PartBytes
 part_bytes s at n low k = go (ltb k n) refl
@@ -119,39 +121,3 @@ one_written LowFirst n h = ap (λ (b : ℕ). b ∷ []) (omega arith)
 -- stores one after the other, from the start of a part on
 pub stored : (old text : List ℕ) → length text ≤ length old → sets old 0 text ≡ over text old
 stored old text h = rw (sets-eq text old 0 (omega arith), zero-add)
-
--- ---- I*2: two's complement as the language has it
-
-pub signed_is : (n : ℕ) → n < 65536 → to_z w16 n ≡ signed n
-signed_is n h = go (ltb n 32768) refl
-  where
-    go : (t : Bool) → ltb n 32768 ≡ t → to_z w16 n ≡ signed n
-    go true e = rw e
-    go false e =
-        let same : 65536 - suc n ≡ 65535 - n = omega (arith, ltb-false n 32768 e) in
-        rw (e, same)
-
-signed_fits : (n : ℕ) → n < 65536 → SFits w16 (signed n)
-signed_fits n h = rw (← signed_is n h) (sfits_to_z (record { fits = h }))
-
-less_one : (m : ℕ) → negsuc 0 -ℤ pos m ≡ negsuc m
-less_one zero = refl
-less_one (suc m) = ap negsuc (omega arith)
-
--- the upper half: as many below -1 as the bits are below all ones
-module _ (n : ℕ) (high : 32768 ≤ n) (h : n < 65536) where
-  negative : negsuc 0 -ℤ to_z w16 (65535 - n) ≡ signed n
-  negative =
-      let low : 65535 - n < 2 ^ 15 = omega arith in
-      rw (to_z_pos w16 low, less_one (65535 - n), le-ltb n 32768 high)
-
-  pub negative_fits : SFits w16 (negsuc 0 -ℤ to_z w16 (65535 - n))
-  negative_fits = rw negative (signed_fits n h)
-
-  pub negative_is : to_z w16 (of_z w16 (negsuc 0 -ℤ to_z w16 (65535 - n))) ≡ signed n
-  negative_is = to_z-of_z negative_fits ∙ negative
-
--- a signed result is read back from its bits
-pub signed_kept : {z : ℤ} {n m : ℕ} → z ≡ signed n → n ≡ m → n < 65536 → to_z w16 (of_z w16 z) ≡ signed m
-signed_kept {z} {n} {m} is same h =
-    ap (λ (y : ℤ). to_z w16 (of_z w16 y)) is ∙ to_z-of_z (signed_fits n h) ∙ ap signed same

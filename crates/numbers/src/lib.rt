@@ -3,12 +3,12 @@
 // it.
 #![tactic(auto)]
 
-ghost use Rattle.std.specs.Prelude.{◌≡◌, ◌≤◌, ◌<◌, [], ◌∷◌, length};
+ghost use Rattle.std.specs.Prelude.{◌≡◌, ◌≤◌, length};
 ghost use Rattle.numbers.specs.Orders.{order_of};
-ghost use Rattle.numbers.specs.Numbers.{worth, number, signed, front, written, over};
+ghost use Rattle.numbers.specs.Numbers.{ordered, number, signed, front, written, over};
 
 // Which byte of an integer comes first.
-#[derive(Clone, Copy)]
+#[derive(Clone, Copy, PartialEq, Eq)]
 pub enum Order {
     HighFirst,
     LowFirst,
@@ -25,25 +25,31 @@ pub fn order_of(cpu: u8) -> Option<Order>
     }
 }
 
-// A byte as a wider number, with its range: the sums below need it.
-fn wide(x: u8) -> u32
-    ensures { (result ≡ x) × (result < 256) }
+// Bytes as they stand, turned to low byte first; or back, which is the same.
+fn ordered<const N: usize>(order: Order, mut bytes: [u8; N]) -> [u8; N]
+    ensures { result ≡ ordered order bytes.entry }
 {
-    x as u32
+    if order == Order::HighFirst {
+        bytes.reverse();
+    }
+    bytes
 }
 
-// Two bytes, the low one first, as a number.
-fn worth2(a: u8, b: u8) -> u16
-    ensures { result ≡ worth (a ∷ b ∷ []) }
+// The first bytes of a part, low byte first.
+#[tactic(auto, using(crate::proofs::Laws::front_is))]
+fn low_first<const N: usize>(order: Order, s: &[u8]) -> [u8; N]
+    requires { N ≤ length s.now }
+    ensures { result ≡ ordered order (front N 0 s.now) }
 {
-    (wide(a) + 256 * wide(b)) as u16
+    ordered(order, *s.first_chunk().unwrap())
 }
 
-// Four bytes, the lowest first, as a number.
-fn worth4(a: u8, b: u8, c: u8, d: u8) -> u32
-    ensures { result ≡ worth (a ∷ b ∷ c ∷ d ∷ []) }
+// Bytes, low byte first, laid over the start of a part.
+fn lay<const N: usize>(order: Order, out: &mut [u8], bytes: [u8; N])
+    requires { N ≤ length out.old }
+    ensures { out.new ≡ over (ordered order bytes.entry) out.old }
 {
-    wide(a) + 256 * (wide(b) + 256 * (wide(c) + 256 * wide(d)))
+    out[..N].copy_from_slice(&ordered(order, bytes));
 }
 
 // The U*2 at the start of a part.
@@ -51,10 +57,7 @@ pub fn u2(order: Order, s: &[u8]) -> u16
     requires { 2 ≤ length s.now }
     ensures { result ≡ number order (front 2 0 s.now) }
 {
-    match order {
-        Order::HighFirst => worth2(s[1], s[0]),
-        Order::LowFirst => worth2(s[0], s[1]),
-    }
+    u16::from_le_bytes(low_first(order, s))
 }
 
 // The U*4 at the start of a part.
@@ -62,21 +65,7 @@ pub fn u4(order: Order, s: &[u8]) -> u32
     requires { 4 ≤ length s.now }
     ensures { result ≡ number order (front 4 0 s.now) }
 {
-    match order {
-        Order::HighFirst => worth4(s[3], s[2], s[1], s[0]),
-        Order::LowFirst => worth4(s[0], s[1], s[2], s[3]),
-    }
-}
-
-// Two bytes in two's complement.
-fn to_signed(n: u16) -> i16
-    ensures { result ≡ signed n }
-{
-    if n < 32768 {
-        n as i16
-    } else {
-        -1 - (65535 - n) as i16
-    }
+    u32::from_le_bytes(low_first(order, s))
 }
 
 // The I*2 at the start of a part.
@@ -84,25 +73,7 @@ pub fn i2(order: Order, s: &[u8]) -> i16
     requires { 2 ≤ length s.now }
     ensures { result ≡ signed (number order (front 2 0 s.now)) }
 {
-    to_signed(u2(order, s))
-}
-
-fn store2(out: &mut [u8], a: u8, b: u8)
-    requires { 2 ≤ length out.old }
-    ensures { out.new ≡ over (a ∷ b ∷ []) out.old }
-{
-    out[0] = a;
-    out[1] = b;
-}
-
-fn store4(out: &mut [u8], a: u8, b: u8, c: u8, d: u8)
-    requires { 4 ≤ length out.old }
-    ensures { out.new ≡ over (a ∷ b ∷ c ∷ d ∷ []) out.old }
-{
-    out[0] = a;
-    out[1] = b;
-    out[2] = c;
-    out[3] = d;
+    i16::from_le_bytes(low_first(order, s))
 }
 
 // A U*1 at the start of a part; every byte behind it stays, here and below.
@@ -110,7 +81,7 @@ pub fn put_u1(order: Order, out: &mut [u8], n: u8)
     requires { 1 ≤ length out.old }
     ensures { out.new ≡ over (written order 1 n) out.old }
 {
-    out[0] = n;
+    lay(order, out, [n]);
 }
 
 // A U*2 at the start of a part.
@@ -118,12 +89,7 @@ pub fn put_u2(order: Order, out: &mut [u8], n: u16)
     requires { 2 ≤ length out.old }
     ensures { out.new ≡ over (written order 2 n) out.old }
 {
-    let a = (n % 256) as u8;
-    let b = (n / 256 % 256) as u8;
-    match order {
-        Order::HighFirst => store2(out, b, a),
-        Order::LowFirst => store2(out, a, b),
-    }
+    lay(order, out, n.to_le_bytes());
 }
 
 // A U*4 at the start of a part.
@@ -131,12 +97,5 @@ pub fn put_u4(order: Order, out: &mut [u8], n: u32)
     requires { 4 ≤ length out.old }
     ensures { out.new ≡ over (written order 4 n) out.old }
 {
-    let a = (n % 256) as u8;
-    let b = (n / 256 % 256) as u8;
-    let c = (n / 256 / 256 % 256) as u8;
-    let d = (n / 256 / 256 / 256 % 256) as u8;
-    match order {
-        Order::HighFirst => store4(out, d, c, b, a),
-        Order::LowFirst => store4(out, a, b, c, d),
-    }
+    lay(order, out, n.to_le_bytes());
 }
