@@ -17,7 +17,7 @@ use answers::Answer;
 use house::{Delivered, House, Room};
 use judging::judge_lent;
 use rising::holds;
-use rows::{count_row, held_by};
+use rows::{SLOT_SPAN, count_row, held_by};
 use searching::{rank_among, rank_guessed};
 use session::{Change, Standing, Verdict};
 use settling::settle_parts;
@@ -26,7 +26,7 @@ fn row_key(slot: usize, key: u32) -> u64
     requires { slot < 16 }
     ensures { result ≡ row_key slot key }
 {
-    slot as u64 * 4294967296 + key as u64
+    slot as u64 * SLOT_SPAN + u64::from(key)
 }
 
 // Whether a key gets a row, or needs none.
@@ -34,31 +34,17 @@ fn is_granted(keys: &[u64], used: usize, room: Room, at: usize, key: u64) -> boo
     requires { Grantable room keys.now used at key }
     ensures { result ≡ granted room (take used keys.now) key }
 {
-    if holds(keys, used, at, key) {
-        return true;
-    }
-    let slot = room.slot;
-    let floor = room.floor as usize;
-    let others = room.others as usize;
-    if held_by(keys, used, slot) < floor {
-        return true;
-    }
-    others < House::ROWS - used
+    holds(keys, used, at, key)
+        || held_by(keys, used, room.slot) < room.floor as usize
+        || (room.others as usize) < House::ROWS - used
 }
 
 // Where the guess for a key stands among 4,096 of them.
 fn cell_of(key: u32) -> usize
     ensures { result ≡ cell_of key }
 {
-    let wide = key as u64;
-    ((wide + wide * 9 / 16384) % 4096) as usize
-}
-
-// A guess as a rank, whatever it is.
-fn rank_in(guess: u16) -> usize
-    ensures { result ≡ guess }
-{
-    guess as usize
+    let key = u64::from(key);
+    ((key + key * 9 / 16384) % 4096) as usize
 }
 
 // The rank of a key, looked for first where its guess says; a guess that was right is not written again. Fewer guesses,
@@ -68,10 +54,10 @@ fn find_row(keys: &[u64], used: usize, guesses: &mut [u16], cell: usize, key: u6
     ensures { (result ≡ rank key (take used keys.now))
         × (guesses.new ≡ set guesses.old cell result) }
 {
-    if guesses.len() <= cell {
+    let Some(&guess) = guesses.get(cell) else {
         return rank_among(keys, used, House::ROWS, key);
-    }
-    let guess = rank_in(guesses[cell]);
+    };
+    let guess = usize::from(guess);
     let at = rank_guessed(keys, used, House::ROWS, guess, key);
     if at != guess {
         guesses[cell] = at as u16;
@@ -121,8 +107,6 @@ fn result_lent(
         ≡ resulted_if room (core keys.old counts.old used st parts.old) change key)
         × (guesses.new ≡ noted room.slot (take used keys.old) key guesses.old) }
 {
-    let slot = room.slot;
-    let kept = Change::Stands(st);
     match take_row(
         keys,
         counts,
@@ -130,24 +114,18 @@ fn result_lent(
         guesses,
         room,
         cell_of(key),
-        row_key(slot, key),
+        row_key(room.slot, key),
     ) {
-        Some(n) => {
-            let standing = settle_parts(st, parts, change);
-            Delivered {
-                answer: Answer::Done,
-                used: n,
-                standing,
-            }
-        }
-        None => {
-            let standing = settle_parts(st, parts, kept);
-            Delivered {
-                answer: Answer::NoRoom,
-                used,
-                standing,
-            }
-        }
+        Some(used) => Delivered {
+            answer: Answer::Done,
+            used,
+            standing: settle_parts(st, parts, change),
+        },
+        None => Delivered {
+            answer: Answer::NoRoom,
+            used,
+            standing: st,
+        },
     }
 }
 
@@ -177,14 +155,11 @@ pub fn settle_lent(
             used,
             standing: st,
         },
-        Verdict::Taken(change) => {
-            let standing = settle_parts(st, parts, change);
-            Delivered {
-                answer: Answer::Done,
-                used,
-                standing,
-            }
-        }
+        Verdict::Taken(change) => Delivered {
+            answer: Answer::Done,
+            used,
+            standing: settle_parts(st, parts, change),
+        },
         Verdict::Wanted(change, key) => result_lent(
             keys, counts, used, guesses, room, st, parts, change, key,
         ),
