@@ -6,7 +6,7 @@ ghost use Rattle.std.specs.Prelude.{◌≡◌, ◌≤◌, ◌<◌, length};
 ghost use Rattle.output.specs.Placed.{Put, Room};
 ghost use Rattle.digits.specs.Digits.{digits, two, is_digit, numeral};
 
-use output::{put_byte, put_pair};
+use output::put;
 
 // The two digits of a number below a hundred: 7 is `07`.
 pub fn two_of(n: u32) -> [u8; 2]
@@ -20,17 +20,17 @@ fn put_two(out: &mut [u8], n: u32) -> usize
     requires { (n < 100) × Room (two n) out.old }
     ensures { Put (two n) out.old result out.new }
 {
-    let pair = two_of(n);
-    put_pair(out, pair[0], pair[1])
+    put(out, two_of(n))
 }
 
 // A number below a hundred: one digit, or two.
+#[tactic(auto, using(crate::proofs::Laws::digits_one, crate::proofs::Laws::digits_two))]
 fn put_few(out: &mut [u8], n: u32) -> usize
     requires { (n < 100) × Room (digits n) out.old }
     ensures { Put (digits n) out.old result out.new }
 {
     if n < 10 {
-        put_byte(out, n as u8 + b'0')
+        put(out, [n as u8 + b'0'])
     } else {
         put_two(out, n)
     }
@@ -90,39 +90,26 @@ pub fn width(n: u32) -> usize
     count
 }
 
+#[tactic(auto, unfolding(crate::specs::Digits::is_digit))]
 fn is_digit(b: u8) -> bool
     ensures { result ≡ is_digit b }
 {
-    if b < b'0' {
-        return false;
-    }
-    b <= b'9'
-}
-
-fn wide(b: u8) -> u64
-    ensures { result ≡ b }
-{
-    b as u64
+    matches!(b, b'0'..=b'9')
 }
 
 // Reads a number of one to ten digits, leading zeros allowed.
 pub fn read_number(s: &[u8]) -> Option<u64>
     ensures { result ≡ numeral s.now }
 {
-    if s.len() < 1 {
-        return None;
-    }
-    if 10 < s.len() {
+    if s.is_empty() || 10 < s.len() {
         return None;
     }
     let mut n: u64 = 0;
-    let mut i: usize = 0;
-    while i < s.len() {
-        if !is_digit(s[i]) {
+    for &b in s {
+        if !is_digit(b) {
             return None;
         }
-        n = n * 10 + (wide(s[i]) - 48);
-        i += 1;
+        n = n * 10 + u64::from(b - b'0');
     }
     Some(n)
 }

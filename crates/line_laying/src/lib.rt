@@ -19,7 +19,6 @@ use line_layouts::forms::{is_name, is_time, missing_value};
 use line_layouts::judging::{is_missing, said_at};
 use line_layouts::{Form, Layout, Line, Said, Tag};
 use numbers::Order;
-use output::put_pair;
 use values::Name;
 
 // A number in a line: a time is a date.
@@ -166,7 +165,7 @@ fn put_marked(out: &mut [u8], form: Form, source: &[u8], said: Said, sep: u8, la
         out.new }
 {
     let n = put_entry(out, form, source, said);
-    n + output::put_byte(&mut out[n..], mark_of(sep, last))
+    n + output::put(&mut out[n..], [mark_of(sep, last)])
 }
 
 // The column of field number j: a line's fields go in the order of the text.
@@ -303,7 +302,7 @@ fn put_header(out: &mut [u8], order: Order, tag: Tag, size: u32) -> usize
     ensures { Put (head_of (Layout.Record order) tag size) out.old result out.new }
 {
     let n = put_number(out, order, Form::U2, size);
-    n + put_pair(&mut out[n..], type_of(tag), sub_of(tag))
+    n + output::put(&mut out[n..], [type_of(tag), sub_of(tag)])
 }
 
 fn put_head(out: &mut [u8], layout: Layout, tag: Tag, size: u32) -> usize

@@ -10,7 +10,7 @@ use native.Mathlib.Omega.{arith}
 use borrow.Author.Tests.{le-leb, lt-leb, leb-true}
 use lib.Dec.{leb}
 use lib.ListN.{length, get_or, take, drop, set, length-append, length-take, length-drop, drop_of_length-le}
-use lib.Seq.{take_all, take-suc, drop-cons, drop-drop, drop-append_seam, take-append_seam, set_at, get_or-drop}
+use lib.Seq.{take_all, take-suc, drop-cons, drop-drop, drop-append_seam, take-append_seam, set_at}
 use lib.Seq.{length-take-le, take_at, drop_at}
 use Rattle.answers.specs.declared.Answer.{Answer}
 use Rattle.answers.specs.declared.Answer.TheVariants.{OutputTooShort}
@@ -73,19 +73,17 @@ module _ (d t old : List ℕ) (h : Room (d ++ t) old) where
               (sym (append_assoc d t (drop (length d + length t) old)));
         }
 
--- ---- a part of a source, byte after byte
+-- ---- byte after byte
+
+pub laid_more : (bytes old : List ℕ) (i : ℕ) → i < length bytes → length bytes ≤ length old
+    → set (over (take i bytes) old) i (get_or bytes i 0) ≡ over (take (i + 1) bytes) old
+laid_more bytes old i k g =
+    let is : length (take i bytes) ≡ i = length-take-le i bytes (omega arith) in
+    rw (add-one i, take-suc bytes i 0 k) (put_end (take i bytes) old (get_or bytes i 0) i is (omega arith))
 
 module _ (at len : ℕ) (source : List ℕ) (h : at + len ≤ length source) where
   pub length_part : length (part at len source) ≡ len
   length_part = simp (length-take, length-drop) (omega arith)
-
-  pub part_more : (i : ℕ) (old : List ℕ) → i < len → len ≤ length old
-      → set (over (part at i source) old) i (get_or source (at + i) 0) ≡ over (part at (i + 1) source) old
-  part_more i old k g =
-      let short : i < length (drop at source) = omega (arith, length-drop at source) in
-      let is : length (part at i source) ≡ i = length-take-le i (drop at source) (omega arith) in
-      rw (add-one i, take-suc (drop at source) i 0 short, get_or-drop at source i 0)
-      (put_end (part at i source) old (get_or source (at + i) 0) i is (omega arith))
 
 -- ---- at an offset
 

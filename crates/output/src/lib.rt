@@ -3,26 +3,30 @@
 // them.
 #![tactic(auto)]
 
-ghost use Rattle.std.specs.Prelude.{◌+◌, ◌≤◌, [], ◌∷◌, length};
+ghost use Rattle.std.specs.Prelude.{◌+◌, ◌≤◌, length};
 ghost use Rattle.output.specs.Placed.{Put, Room, part};
 
-// One byte.
-pub fn put_byte(out: &mut [u8], b: u8) -> usize
-    requires { Room (b ∷ []) out.old }
-    ensures { Put (b ∷ []) out.old result out.new }
+// A few bytes.
+#[tactic(auto, using(crate::proofs::Laws::laid_more))]
+pub fn put<const N: usize>(out: &mut [u8], bytes: [u8; N]) -> usize
+    requires { Room bytes out.old }
+    ensures { Put bytes.entry out.old result out.new }
 {
-    out[0] = b;
-    1
+    // A loop: copy_from_slice took five times as long for the two bytes of a pair of digits.
+    for i in 0..N {
+        out[i] = bytes[i];
+    }
+    N
 }
 
-// Two bytes.
-pub fn put_pair(out: &mut [u8], a: u8, b: u8) -> usize
-    requires { Room (a ∷ b ∷ []) out.old }
-    ensures { Put (a ∷ b ∷ []) out.old result out.new }
+// Bytes, as they are.
+pub fn put_bytes(out: &mut [u8], bytes: &[u8]) -> usize
+    requires { Room bytes.now out.old }
+    ensures { Put bytes.now out.old result out.new }
 {
-    out[0] = a;
-    out[1] = b;
-    2
+    let n = bytes.len();
+    out[..n].copy_from_slice(bytes);
+    n
 }
 
 // `len` bytes of a source, from its place `at` on.
@@ -30,10 +34,5 @@ pub fn put_part(out: &mut [u8], source: &[u8], at: usize, len: usize) -> usize
     requires { (at + len ≤ length source.now) × (len ≤ length out.old) }
     ensures { Put (part at len source.now) out.old result out.new }
 {
-    let mut i: usize = 0;
-    while i < len {
-        out[i] = source[at + i];
-        i += 1;
-    }
-    len
+    put_bytes(out, &source[at..at + len])
 }

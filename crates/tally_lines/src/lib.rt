@@ -15,14 +15,14 @@ use house::Row;
 use line_laying::put_tag;
 use line_layouts::Tag;
 use line_layouts::columns::{LINE_FEED, SEPARATOR};
-use output::{put_byte, put_part};
+use output::{put, put_bytes};
 
 // Words, then a number.
 fn put_numbered(out: &mut [u8], words: &[u8], n: u64) -> usize
     requires { Room (numbered words.now n) out.old }
     ensures { Put (numbered words.now n) out.old result out.new }
 {
-    let k = put_part(out, words, 0, words.len());
+    let k = put_bytes(out, words);
     k + put_digits(&mut out[k..], n)
 }
 
@@ -32,7 +32,7 @@ fn put_said(out: &mut [u8], words: &[u8], n: u64) -> usize
     ensures { Put (said words.now n) out.old result out.new }
 {
     let k = put_numbered(out, words, n);
-    k + put_byte(&mut out[k..], b'\n')
+    k + put(&mut out[k..], [b'\n'])
 }
 
 // `, head H site S`
@@ -50,7 +50,7 @@ fn put_ending(out: &mut [u8], values: Option<(u8, u8)>) -> usize
     ensures { Put (ending values) out.old result out.new }
 {
     match values {
-        None => put_byte(out, b'\n'),
+        None => put(out, [b'\n']),
         Some((head, site)) => put_open_part(out, head, site),
     }
 }
@@ -103,7 +103,7 @@ fn put_cell(out: &mut [u8], n: u64, mark: u8) -> usize
     ensures { Put (cell n mark) out.old result out.new }
 {
     let k = put_digits(out, n);
-    k + put_byte(&mut out[k..], mark)
+    k + put(&mut out[k..], [mark])
 }
 
 // Two of them, one behind the other.

@@ -10,7 +10,7 @@ pub returns : goal.returns
 returns c =
     let a = c.args in
     let p = c.put_entry-n in
-    let q = c.put_byte in
+    let q = c.put in
     let text = entry_text a.form (entry_of a.source.now a.said) in
     both text (mark a.sep a.last ∷ []) a.out.now c.requires.1
     p.new.out p.result p.ensures

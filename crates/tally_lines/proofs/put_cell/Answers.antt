@@ -10,4 +10,4 @@ returns c =
     let a = c.args in
     both (digits a.n) (a.mark ∷ []) a.out.now c.requires c.put_digits-k.new.out
     c.put_digits-k.result
-    c.put_digits-k.ensures c.put_byte.new.out c.put_byte.result c.put_byte.ensures
+    c.put_digits-k.ensures c.put.new.out c.put.result c.put.ensures

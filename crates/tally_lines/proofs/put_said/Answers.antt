@@ -11,4 +11,4 @@ returns c =
     let a = c.args in
     both (numbered a.words.now a.n) (line_feed ∷ []) a.out.now c.requires c.put_numbered-k.new.out
     c.put_numbered-k.result
-    c.put_numbered-k.ensures c.put_byte.new.out c.put_byte.result c.put_byte.ensures
+    c.put_numbered-k.ensures c.put.new.out c.put.result c.put.ensures
