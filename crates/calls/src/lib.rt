@@ -22,10 +22,9 @@ pub fn open_slot(house: House, slot: u32, floor: u32) -> Answered
     ensures { result ≡ open_slot house slot floor }
 {
     let mut h = house;
-    let told = soundness_of(h);
-    if !told.sound {
+    let Some(promised) = soundness_of(h) else {
         return answer_with(Answer::NotSound, h);
-    }
+    };
     let i = slot as usize;
     if House::SLOTS <= i {
         return answer_with(Answer::NoSuchSlot, h);
@@ -35,7 +34,7 @@ pub fn open_slot(house: House, slot: u32, floor: u32) -> Answered
     }
     let s = h.slots[i];
     let free = (House::ROWS - h.used) as u32;
-    let spare = free - told.promised;
+    let spare = free - promised;
     if s.taken {
         return answer_with(Answer::SlotTaken, h);
     }
@@ -50,19 +49,17 @@ pub fn open_slot(house: House, slot: u32, floor: u32) -> Answered
 pub fn figures(house: House) -> Figures
     ensures { result ≡ figures_of house }
 {
-    let told = soundness_of(house);
-    if told.sound {
-        let free = (House::ROWS - house.used) as u32;
+    let Some(promised) = soundness_of(house) else {
         return Figures {
-            answer: Answer::Done,
-            free,
-            promised: told.promised,
+            answer: Answer::NotSound,
+            free: 0,
+            promised: 0,
         };
-    }
+    };
     Figures {
-        answer: Answer::NotSound,
-        free: 0,
-        promised: 0,
+        answer: Answer::Done,
+        free: (House::ROWS - house.used) as u32,
+        promised,
     }
 }
 

@@ -24,10 +24,9 @@ pub fn deliver(house: House, slot: u32, rec: &[u8]) -> Answered
 {
     let h = house;
     let slots = h.slots;
-    let told = soundness_lent(slots, &h.keys, &h.counts, h.used);
-    if !told.sound {
+    let Some(owed) = soundness_lent(slots, &h.keys, &h.counts, h.used) else {
         return answer_with(Answer::NotSound, h);
-    }
+    };
     let i = slot as usize;
     if House::SLOTS <= i {
         return answer_with(Answer::NoSuchSlot, h);
@@ -37,7 +36,7 @@ pub fn deliver(house: House, slot: u32, rec: &[u8]) -> Answered
         return answer_with(Answer::SlotClosed, h);
     }
     let verdict = judge_slot(s, rec);
-    settle_to(h, told.promised, i, s, verdict)
+    settle_to(h, owed, i, s, verdict)
 }
 
 // What a record does to the session of an open slot: it is judged here, once, and no house is touched.

@@ -107,10 +107,9 @@ pub fn feed(house: House, slot: u32, carry: &mut [u8], chunk: &[u8]) -> Fed
 {
     let h = house;
     let slots = h.slots;
-    let told = soundness_lent(slots, &h.keys, &h.counts, h.used);
-    if !told.sound {
+    let Some(owed) = soundness_lent(slots, &h.keys, &h.counts, h.used) else {
         return fed(Answer::NotSound, 0, h);
-    }
+    };
     let i = slot as usize;
     if House::SLOTS <= i {
         return fed(Answer::NoSuchSlot, 0, h);
@@ -123,7 +122,7 @@ pub fn feed(house: House, slot: u32, carry: &mut [u8], chunk: &[u8]) -> Fed
         return fed(Answer::OutputTooShort, 0, h);
     }
     all_cells(slots);
-    feed_open(h, told.promised, i, s, carry, chunk)
+    feed_open(h, owed, i, s, carry, chunk)
 }
 
 // Ends feeding: no byte may be held. It changes nothing.

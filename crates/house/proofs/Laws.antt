@@ -1,25 +1,23 @@
 -- Laws of the house's definitions, as the functions' proofs cite them.
 -- Assumes nothing.
-use mathlib.Core.Path.{◌≡◌, sym, ap, ◌∙◌}
+use mathlib.Core.Path.{◌≡◌, refl, sym, ◌∙◌}
+use Rattle.std.specs.Prelude.{Option, Some, None}
 use mathlib.Core.Bool.{Bool, true, false, ◌&&◌, and-true, and-false}
 use mathlib.Core.List.{List}
 use Prim.Native.Nat.{ℕ, ◌+◌, ◌-◌, ◌≤◌, ◌<◌}
 use native.Mathlib.Numerals.{add-one}
 use native.Mathlib.Omega.{arith}
-use borrow.Author.Tests.{le-leb, lt-leb, eq-eqb, ne_eqb}
-use lib.Dec.{eqb, leb}
+use borrow.Author.Tests.{le-leb, lt-leb}
+use lib.Dec.{leb}
 use lib.ListN.{length, get_or, take, drop, set, drop_of_length-le, length-map, get_or-map}
 use lib.Seq.{drop-cons, take-suc-set, take-suc}
 use Rattle.prelude.proofs.Both.{both_left, both_right}
 use Rattle.rising.specs.Rising.{rising}
-use Rattle.rows.specs.Rows.{held_by, sum_by, rows_right, rows_open, rows_fit, Kept}
+use Rattle.rows.specs.Rows.{held_by, rows_right, rows_open, rows_fit, Kept}
 use Rattle.rows.proofs.Laws.{right_apart}
-use Rattle.session.specs.Session as session
-use Rattle.session.specs.Session.{nothing_yet, most_results}
 use Rattle.house.specs.declared.Slot.{Slot}
 use Rattle.house.specs.declared.House.{House}
-use Rattle.house.specs.declared.Soundness.{Soundness}
-use Rattle.house.specs.House.{row_count, carry_length, keys_of, counts_of, free, unfilled, promised_from, promised}
+use Rattle.house.specs.House.{row_count, keys_of, counts_of, free, unfilled, promised_from, promised}
 use Rattle.house.specs.House.{taken_of, rows_sound, slot_sound, slots_sound, sound, unsound, soundness, LentKeys}
 use Rattle.house.specs.House.{Lent}
 
@@ -67,48 +65,6 @@ taken_on slots cells i none h g e =
     )
 
 -- ---- soundness, slot by slot
-
-module _ (i : ℕ) (s : Slot) (keys counts : List ℕ) where
-  module _ (shut : s.taken ≡ false) where
-    pub shut_floor : (s.floor ≡ 0 → ⊥) → slot_sound i s keys counts ≡ false
-    unfolding slot_sound
-    shut_floor h = rw (shut, ne_eqb s.floor 0 h)
-
-    module _ (low : s.floor ≡ 0) where
-      pub shut_held : (s.held ≡ 0 → ⊥) → slot_sound i s keys counts ≡ false
-      unfolding slot_sound
-      shut_held h = rw (shut, eq-eqb s.floor 0 low, ne_eqb s.held 0 h)
-
-      pub shut_nothing : s.held ≡ 0 → slot_sound i s keys counts ≡ nothing_yet s.session.standing
-      unfolding slot_sound
-      shut_nothing h = rw (shut, eq-eqb s.floor 0 low, eq-eqb s.held 0 h)
-
-  module _ (open_there : s.taken ≡ true) where
-    pub open_floor : row_count < s.floor → slot_sound i s keys counts ≡ false
-    unfolding slot_sound
-    open_floor h = rw (open_there, lt-leb s.floor row_count h)
-
-    module _ (low : s.floor ≤ row_count) where
-      pub open_held : carry_length < s.held → slot_sound i s keys counts ≡ false
-      unfolding slot_sound
-      open_held h = rw (open_there, le-leb s.floor row_count low, lt-leb s.held carry_length h)
-
-      module _ (few : s.held ≤ carry_length) where
-        pub open_session : session.sound s.session ≡ false → slot_sound i s keys counts ≡ false
-        unfolding slot_sound
-        open_session e = rw (open_there, le-leb s.floor row_count low, le-leb s.held carry_length few, e)
-
-        pub open_sum : session.sound s.session ≡ true → s.session.standing.results ≤ most_results
-            → slot_sound i s keys counts ≡ eqb (sum_by i keys counts) s.session.standing.results
-        unfolding slot_sound
-        open_sum e most =
-            rw (
-              open_there,
-              le-leb s.floor row_count low,
-              le-leb s.held carry_length few,
-              e,
-              le-leb s.session.standing.results most_results most,
-            )
 
 module _ (slots : List Slot) (keys counts : List ℕ) (i : ℕ) (none : Slot) where
   module _ (h : i < length slots) where
@@ -168,18 +124,27 @@ module _ (h : House) where
   pub tells_unsound : sound h ≡ false → unsound ≡ soundness h
   tells_unsound e = rw e
 
-  pub tells_sound : (n : ℕ) → sound h ≡ true → n ≡ promised h → record { sound = true; promised = n } ≡ soundness h
+  pub tells_sound : (n : ℕ) → sound h ≡ true → n ≡ promised h → Some n ≡ soundness h
   tells_sound n e is = rw (e, is)
 
-  module _ (s : Soundness) (told : s ≡ soundness h) where
-    pub told_unsound : s.sound ≡ false → sound h ≡ false
-    told_unsound e = sym (ap (λ (t : Soundness). t.sound) told) ∙ e
+  -- what was told, in either case
+  told : {P : Type 0} → (soundness h ≡ None → sound h ≡ false → P)
+      → (soundness h ≡ Some (promised h) → sound h ≡ true → P) → P
+  told {P} none some = go (sound h) refl
+    where
+      go : (b : Bool) → sound h ≡ b → P
+      go true e = some (rw e) e
+      go false e = none (rw e) e
 
-    pub told_sound : s.sound ≡ true → sound h ≡ true
-    told_sound e = sym (ap (λ (t : Soundness). t.sound) told) ∙ e
+  module _ (s : Option ℕ) (is : s ≡ soundness h) where
+    pub told_unsound : s ≡ None → sound h ≡ false
+    told_unsound e = told (λ n f. f) (λ f t. cc)
 
-    pub told_promised : s.sound ≡ true → s.promised ≡ promised h
-    told_promised e = ap (λ (t : Soundness). t.promised) told ∙ rw (told_sound e)
+    pub told_sound : (n : ℕ) → s ≡ Some n → sound h ≡ true
+    told_sound n e = told (λ f t. cc) (λ f t. t)
+
+    pub told_promised : (n : ℕ) → s ≡ Some n → n ≡ promised h
+    told_promised n e = told (λ f t. cc) (λ f t. cc)
 
 -- ---- what is lent
 

@@ -6,7 +6,7 @@
 --   conditions, sound, soundness    document 01's conditions on a sound house, whether all hold, and what a test of
 --                                   them tells
 -- Assumes nothing.
-use Rattle.std.specs.Prelude.{ℕ, suc, ◌+◌, ◌-◌, ◌≤◌, ◌≡◌, Bool, true, false, cond, ◌&&◌, List, [], ◌∷◌, map, leb, eqb, length, take, replicate}
+use Rattle.std.specs.Prelude.{ℕ, suc, ◌+◌, ◌-◌, ◌≤◌, ◌≡◌, Bool, true, false, cond, ◌&&◌, List, [], ◌∷◌, map, leb, eqb, length, take, replicate, Option, Some, None}
 use Rattle.rising.specs.Rising.{rising}
 use Rattle.prelude.specs.All.{all}
 use Rattle.rows.specs.Rows.{slot_count, held_by, sum_by, rows_right}
@@ -15,7 +15,6 @@ use Rattle.session.specs.Session as session
 use Rattle.session.specs.Session.{begun, nothing_yet, most_results}
 use Rattle.house.specs.declared.Slot.{Slot}
 use Rattle.house.specs.declared.House.{House}
-use Rattle.house.specs.declared.Soundness.{Soundness}
 
 -- a house has 16 slots and 1,024 rows; a floor is 0 to 1,024
 abbrev pub row_count : ℕ
@@ -117,12 +116,12 @@ conditions h =
 unfoldable pub sound : House → Bool
 sound h = all (conditions h)
 
--- what a test of it tells: whether it is sound, and the rows promised, 0 where it is not
-abbrev pub unsound : Soundness
-unsound = record { sound = false; promised = 0 }
+-- what a test of it tells: the rows promised, where it is sound
+abbrev pub unsound : Option ℕ
+unsound = None
 
-abbrev pub soundness : House → Soundness
-soundness h = record { sound = sound h; promised = cond (sound h) (promised h) 0 }
+abbrev pub soundness : House → Option ℕ
+soundness h = cond (sound h) (Some (promised h)) unsound
 
 -- ---- what is lent
 

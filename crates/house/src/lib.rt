@@ -30,13 +30,6 @@ pub struct House {
     pub slots: [Slot; House::SLOTS],
 }
 
-// What a test of a house tells: whether it is sound, and how many rows are promised, 0 where it is not.
-#[derive(Clone, Copy)]
-pub struct Soundness {
-    pub sound: bool,
-    pub promised: u32,
-}
-
 // The answer of a call, and the house after it.
 #[derive(Clone, Copy)]
 pub struct Answered {

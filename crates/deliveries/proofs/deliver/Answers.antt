@@ -1,62 +1,50 @@
 -- `deliveries::deliver` meets its contract: each return is one case of its definition.
 -- Assumes nothing.
-use mathlib.Core.Path.{◌≡◌, sym, ◌∙◌, refl}
-use mathlib.Core.Bool.{true, false, not}
+use mathlib.Core.Path.{sym, ◌∙◌, refl}
 use borrow.Author.Tests.{not-true, not-false}
-use Rattle.house.specs.declared.House.{House}
-use Rattle.house.specs.declared.Soundness.{Soundness}
-use Rattle.house.specs.House.{sound, soundness, promised}
 use Rattle.house.proofs.Laws.{told_sound, told_unsound, told_promised}
 use Rattle.house.proofs.Calling.{deliver_unsound, deliver_no_slot, deliver_shut, deliver_judged, open_session}
 use Rattle.house.proofs.Calling.{laid_judged}
 use Rattle.deliveries.proofs.deliver.Goals as goal
 
--- what the test of the house told
-module _ (house : House) (told : Soundness) (is : told ≡ soundness house) (fine : not told.sound ≡ false) where
-  sounded : sound house ≡ true
-  sounded = told_sound _ _ is (not-false told.sound fine)
-
-  owed : told.promised ≡ promised house
-  owed = told_promised _ _ is (not-false told.sound fine)
-
-pub returns-then-not-told : goal.returns-then-not-told
-returns-then-not-told c =
+pub returns-in_default : goal.returns-in_default
+returns-in_default c =
     c.answer_with.ensures
-    ∙ sym (deliver_unsound _ _ _ (told_unsound _ _ c.soundness_lent-told.ensures.0 (not-true _ c.if-not-told.true)))
+    ∙ sym (deliver_unsound _ _ _ (told_unsound _ _ c.soundness_lent.ensures.0 c.in_default.is))
 
 pub returns-then-i-ge-SLOTS : goal.returns-then-i-ge-SLOTS
 returns-then-i-ge-SLOTS c =
-    let fine = sounded c.args.house _ c.soundness_lent-told.ensures.0 c.if-not-told.false in
+    let fine = told_sound _ _ c.soundness_lent.ensures.0 _ c.in-Some.is in
     c.answer_with-then-i-ge-SLOTS.ensures ∙ sym (deliver_no_slot _ _ _ fine c.if-i-ge-SLOTS.true)
 
 pub returns-then-not-s : goal.returns-then-not-s
 returns-then-not-s c =
-    let fine = sounded c.args.house _ c.soundness_lent-told.ensures.0 c.if-not-told.false in
+    let fine = told_sound _ _ c.soundness_lent.ensures.0 _ c.in-Some.is in
     c.answer_with-then-not-s.ensures
     ∙ sym (deliver_shut _ _ _ fine c.if-i-ge-SLOTS.false (not-true _ c.if-not-s.true))
 
 pub judge_slot-verdict-requires : goal.judge_slot-verdict-requires
 judge_slot-verdict-requires c =
-    let fine = sounded c.args.house _ c.soundness_lent-told.ensures.0 c.if-not-told.false in
+    let fine = told_sound _ _ c.soundness_lent.ensures.0 _ c.in-Some.is in
     open_session c.args.house c.args.slot fine
-    c.soundness_lent-told.ensures.1 c.if-i-ge-SLOTS.false (not-false _ c.if-not-s.false)
+    c.soundness_lent.ensures.1 c.if-i-ge-SLOTS.false (not-false _ c.if-not-s.false)
 
 pub settle_to-requires : goal.settle_to-requires
 settle_to-requires c =
-    let fine = sounded c.args.house _ c.soundness_lent-told.ensures.0 c.if-not-told.false in
+    let fine = told_sound _ _ c.soundness_lent.ensures.0 _ c.in-Some.is in
     record {
       sound = fine;
       inside = c.if-i-ge-SLOTS.false;
       is = refl;
       taken = not-false _ c.if-not-s.false;
-      slots = c.soundness_lent-told.ensures.1;
-      owes = owed c.args.house _ c.soundness_lent-told.ensures.0 c.if-not-told.false;
+      slots = c.soundness_lent.ensures.1;
+      owes = told_promised _ _ c.soundness_lent.ensures.0 _ c.in-Some.is;
       fits = c.judge_slot-verdict.ensures.1;
     }
 
 pub returns : goal.returns
 returns c =
-    let fine = sounded c.args.house _ c.soundness_lent-told.ensures.0 c.if-not-told.false in
+    let fine = told_sound _ _ c.soundness_lent.ensures.0 _ c.in-Some.is in
     let a = c.args in
     c.settle_to.ensures
     ∙ laid_judged a.house a.slot a.rec.now c.judge_slot-verdict.ensures.0

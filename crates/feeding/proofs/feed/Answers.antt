@@ -8,12 +8,12 @@ use Rattle.house.proofs.Laws.{told_sound, told_unsound, told_promised}
 use Rattle.feeding.proofs.Door.{unfed_told, feed_unsound, feed_no_slot, feed_shut, feed_other, feed_done_lem, feed_touched}
 use Rattle.feeding.proofs.feed.Goals as goal
 
-pub returns-then-not-told : goal.returns-then-not-told
-returns-then-not-told c =
+pub returns-in_default : goal.returns-in_default
+returns-in_default c =
     record {
       carry_after =
           unfed_told _ _ _ c.fed.ensures
-          ∙ feed_unsound _ _ _ _ (told_unsound _ _ c.soundness_lent-told.ensures.0 (not-true _ c.if-not-told.true));
+          ∙ feed_unsound _ _ _ _ (told_unsound _ _ c.soundness_lent.ensures.0 c.in_default.is);
       kept = λ failed. refl;
     }
 
@@ -22,7 +22,7 @@ returns-then-i-ge-SLOTS c =
     record {
       carry_after =
           unfed_told _ _ _ c.fed-then-i-ge-SLOTS.ensures
-          ∙ feed_no_slot _ _ _ _ (told_sound _ _ c.soundness_lent-told.ensures.0 (not-false _ c.if-not-told.false)) c.if-i-ge-SLOTS.true;
+          ∙ feed_no_slot _ _ _ _ (told_sound _ _ c.soundness_lent.ensures.0 _ c.in-Some.is) c.if-i-ge-SLOTS.true;
       kept = λ failed. refl;
     }
 
@@ -31,7 +31,7 @@ returns-then-not-s c =
     record {
       carry_after =
           unfed_told _ _ _ c.fed-then-not-s.ensures
-          ∙ feed_shut _ _ _ _ (told_sound _ _ c.soundness_lent-told.ensures.0 (not-false _ c.if-not-told.false)) c.if-i-ge-SLOTS.false (not-true _ c.if-not-s.true);
+          ∙ feed_shut _ _ _ _ (told_sound _ _ c.soundness_lent.ensures.0 _ c.in-Some.is) c.if-i-ge-SLOTS.false (not-true _ c.if-not-s.true);
       kept = λ failed. refl;
     }
 
@@ -40,7 +40,7 @@ returns-then-carry-ne-CARRY c =
     record {
       carry_after =
           unfed_told _ _ _ c.fed-then-carry-ne-CARRY.ensures
-          ∙ feed_other _ _ _ _ (told_sound _ _ c.soundness_lent-told.ensures.0 (not-false _ c.if-not-told.false)) c.if-i-ge-SLOTS.false (not-false _ c.if-not-s.false)
+          ∙ feed_other _ _ _ _ (told_sound _ _ c.soundness_lent.ensures.0 _ c.in-Some.is) c.if-i-ge-SLOTS.false (not-false _ c.if-not-s.false)
           c.if-carry-ne-CARRY.true;
       kept = λ failed. refl;
     }
@@ -48,12 +48,12 @@ returns-then-carry-ne-CARRY c =
 pub feed_open-requires : goal.feed_open-requires
 feed_open-requires c =
     record {
-      fine = told_sound _ _ c.soundness_lent-told.ensures.0 (not-false _ c.if-not-told.false);
+      fine = told_sound _ _ c.soundness_lent.ensures.0 _ c.in-Some.is;
       inside = c.if-i-ge-SLOTS.false;
       is = refl;
       taken = not-false _ c.if-not-s.false;
-      slots = c.soundness_lent-told.ensures.1;
-      owes = told_promised _ _ c.soundness_lent-told.ensures.0 (not-false _ c.if-not-told.false);
+      slots = c.soundness_lent.ensures.1;
+      owes = told_promised _ _ c.soundness_lent.ensures.0 _ c.in-Some.is;
       cells = c.all_cells.ensures;
       long = c.if-carry-ne-CARRY.false;
     }
@@ -63,6 +63,6 @@ returns c =
     record {
       carry_after =
           c.feed_open.ensures
-          ∙ feed_done_lem _ _ _ _ (told_sound _ _ c.soundness_lent-told.ensures.0 (not-false _ c.if-not-told.false)) c.if-i-ge-SLOTS.false (not-false _ c.if-not-s.false) c.if-carry-ne-CARRY.false;
-      kept = feed_touched _ _ _ c.args.chunk.now (told_sound _ _ c.soundness_lent-told.ensures.0 (not-false _ c.if-not-told.false)) c.if-i-ge-SLOTS.false (not-false _ c.if-not-s.false) c.if-carry-ne-CARRY.false _;
+          ∙ feed_done_lem _ _ _ _ (told_sound _ _ c.soundness_lent.ensures.0 _ c.in-Some.is) c.if-i-ge-SLOTS.false (not-false _ c.if-not-s.false) c.if-carry-ne-CARRY.false;
+      kept = feed_touched _ _ _ c.args.chunk.now (told_sound _ _ c.soundness_lent.ensures.0 _ c.in-Some.is) c.if-i-ge-SLOTS.false (not-false _ c.if-not-s.false) c.if-carry-ne-CARRY.false _;
     }

@@ -8,16 +8,9 @@ use Rattle.rows.specs.Rows.{past_slots}
 use Rattle.rows.proofs.Laws.{fit_below}
 use Rattle.soundness.proofs.rows_rise.Goals as goal
 
-pub returns-then-not-rows_fit : goal.returns-then-not-rows_fit
-returns-then-not-rows_fit c = rw (← c.rows_fit.ensures, c.if-not-rows_fit.true)
-
 pub rises_below-requires : goal.rises_below-requires
 rises_below-requires c =
     let keys = take c.args.used c.args.keys.now in (
       omega (arith, c.requires.0, c.requires.2),
-      below_more past_slots _ keys (omega arith)
-          (fit_below keys _ (sym c.rows_fit.ensures ∙ c.if-not-rows_fit.false)),
+      below_more past_slots _ keys (omega arith) (fit_below keys _ (sym c.rows_fit.ensures ∙ c.if-rows_fit.true)),
     )
-
-pub returns : goal.returns
-returns c = rw (sym c.rows_fit.ensures ∙ c.if-not-rows_fit.false) c.rises_below.ensures

@@ -1,13 +1,14 @@
 -- `soundness::soundness_lent` meets its contract: each return is one case of the definition of `sound`.
 -- Assumes nothing.
 use mathlib.Core.Path.{◌≡◌, ap, sym, ◌∙◌}
-use mathlib.Core.Bool.{Bool, true, ◌&&◌}
+use mathlib.Core.Bool.{Bool, true, false, ◌&&◌}
 use mathlib.Core.List.{List}
 use Prim.Native.Nat.{◌≤◌, ◌<◌}
 use native.Mathlib.Omega.{arith}
 use lib.Dec.{leb}
 use lib.ListN.{length}
-use borrow.Author.Tests.{not-true, not-false, le-leb, lt-leb}
+use borrow.Author.Tests.{le-leb, lt-leb}
+use borrow.Author.Rules.{rules}
 use Rattle.prelude.proofs.Both.{both_left, both_right}
 use Rattle.rising.specs.Rising.{rising, all_below}
 use Rattle.rows.specs.Rows.{past_slots, rows_fit, rows_open}
@@ -17,8 +18,9 @@ use Rattle.house.specs.House.{row_count, keys_of, counts_of, taken_of, rows_soun
 use Rattle.house.specs.House.{promised, free, sound}
 use Rattle.house.proofs.Laws.{sound_many, sound_rows, sound_slots, sound_rooms, rows_not, rows_are}
 use Rattle.house.proofs.Laws.{tells_unsound, tells_sound}
-use borrow.Author.Rules.{rules}
 use Rattle.soundness.proofs.soundness_lent.Goals as goal
+use Rattle.soundness.proofs.soundness_lent.Goals.{then-used-gt-ROWS-via-then-used-gt-ROWS, then-used-gt-ROWS-via-else-used-gt-ROWS+then-not-rows_rise}
+use Rattle.soundness.proofs.soundness_lent.Goals.{then-not-told-via-then-not-told, then-not-told-via-else-not-told+then-not-rows_open}
 
 -- ---- what is known, on the way, of the house that is tested
 
@@ -48,28 +50,14 @@ module _ (h : House) (up : (rows_fit (keys_of h) (counts_of h) && rising (keys_o
 pub returns-then-used-gt-ROWS : goal.returns-then-used-gt-ROWS
 returns-then-used-gt-ROWS c =
     let h = house_of c.args.keys.now c.args.counts.now c.args.used c.args.slots in
-    (c.unsound.ensures ∙ tells_unsound h (sound_many h c.if-used-gt-ROWS.true), search rules)
-
-pub returns-then-not-rows_rise : goal.returns-then-not-rows_rise
-returns-then-not-rows_rise c =
-    let h = house_of c.args.keys.now c.args.counts.now c.args.used c.args.slots in
-    let none = rows_not _ _ _ (sym c.rows_rise.ensures ∙ c.if-not-rows_rise.true) in (
-      c.unsound-then-not-rows_rise.ensures ∙ tells_unsound h (sound_rows h c.if-used-gt-ROWS.false none),
-      search rules,
-    )
-
-pub slots_told-told-requires : goal.slots_told-told-requires
-slots_told-told-requires c =
-    lent (house_of c.args.keys.now c.args.counts.now c.args.used c.args.slots)
-    (sym c.rows_rise.ensures ∙ c.if-not-rows_rise.false) c.requires.0 c.requires.1 c.if-used-gt-ROWS.false
-
-pub returns-then-not-told : goal.returns-then-not-told
-returns-then-not-told c =
-    let h = house_of c.args.keys.now c.args.counts.now c.args.used c.args.slots in
-    let none = sym c.slots_told-told.ensures.0 ∙ not-true c.slots_told-told.result.sound c.if-not-told.true in (
-      c.unsound-then-not-told.ensures ∙ tells_unsound h (sound_slots h c.if-used-gt-ROWS.false none),
-      search rules,
-    )
+    let unsound : sound h ≡ false =
+    elim c.then-used-gt-ROWS.branch [
+      | then-used-gt-ROWS-via-then-used-gt-ROWS w ↦ sound_many h w.if-used-gt-ROWS.true
+      | then-used-gt-ROWS-via-else-used-gt-ROWS+then-not-rows_rise w ↦
+          sound_rows h w.if-used-gt-ROWS.false
+          (rows_not _ _ _ (sym w.rows_rise.ensures ∙ w.if-not-rows_rise.true))
+    ] in
+    (tells_unsound h unsound, search rules)
 
 pub rows_open-requires : goal.rows_open-requires
 rows_open-requires c =
@@ -78,38 +66,39 @@ rows_open-requires c =
     let inside = low h (sym c.rows_rise.ensures ∙ c.if-not-rows_rise.false) in
     search rules
 
-pub returns-then-not-rows_open : goal.returns-then-not-rows_open
-returns-then-not-rows_open c =
+pub returns-then-not-told : goal.returns-then-not-told
+returns-then-not-told c =
     let h = house_of c.args.keys.now c.args.counts.now c.args.used c.args.slots in
-    let all =
-    rows_told h (sym c.rows_rise.ensures ∙ c.if-not-rows_rise.false) _ _ c.rows_open.ensures
-    c.slots_told-told.ensures.2 in (
-      c.unsound-then-not-rows_open.ensures
-          ∙ tells_unsound h (sound_rows h c.if-used-gt-ROWS.false (sym all ∙ c.if-not-rows_open.true)),
-      search rules,
-    )
+    let up = sym c.rows_rise.ensures ∙ c.if-not-rows_rise.false in
+    let told = c.slots_told-told.ensures in
+    let unsound : sound h ≡ false =
+    elim c.then-not-told.branch [
+      | then-not-told-via-then-not-told w ↦
+          sound_slots h c.if-used-gt-ROWS.false (sym told.0 ∙ w.if-not-told.true)
+      | then-not-told-via-else-not-told+then-not-rows_open w ↦
+          sound_rows h c.if-used-gt-ROWS.false
+          (sym (rows_told h up _ _ w.rows_open.ensures told.2) ∙ w.if-not-rows_open.true)
+    ] in
+    (tells_unsound h unsound, search rules)
 
-pub returns-then-free-promised : goal.returns-then-free-promised
-returns-then-free-promised c =
+pub returns-then-free-told : goal.returns-then-free-told
+returns-then-free-told c =
     let h = house_of c.args.keys.now c.args.counts.now c.args.used c.args.slots in
-    let owed : c.slots_told-told.result.promised ≡ promised h = c.slots_told-told.ensures.1 in
-    let much : free h < promised h = omega (arith, owed) in
+    let up = sym c.rows_rise.ensures ∙ c.if-not-rows_rise.false in
+    let told = c.slots_told-told.ensures in
+    let much : free h < promised h = omega (arith, told.1) in
     let decides =
-    rooms h (sym c.rows_rise.ensures ∙ c.if-not-rows_rise.false) _ _ c.rows_open.ensures
-    c.slots_told-told.ensures.2 c.if-not-rows_open.false _ c.slots_told-told.ensures.0
-    (not-false c.slots_told-told.result.sound c.if-not-told.false) c.if-used-gt-ROWS.false in (
-      c.unsound-then-free-promised.ensures
-          ∙ tells_unsound h (decides ∙ lt-leb (promised h) (free h) much),
-      search rules,
-    )
+    rooms h up _ _ c.rows_open.ensures told.2 c.if-not-rows_open.false _ told.0
+    c.if-not-told.false c.if-used-gt-ROWS.false in
+    (tells_unsound h (decides ∙ lt-leb (promised h) (free h) much), search rules)
 
 pub returns : goal.returns
 returns c =
     let h = house_of c.args.keys.now c.args.counts.now c.args.used c.args.slots in
-    let owed : c.slots_told-told.result.promised ≡ promised h = c.slots_told-told.ensures.1 in
-    let few : promised h ≤ free h = omega (arith, owed) in
+    let up = sym c.rows_rise.ensures ∙ c.if-not-rows_rise.false in
+    let told = c.slots_told-told.ensures in
+    let few : promised h ≤ free h = omega (arith, told.1) in
     let decides =
-    rooms h (sym c.rows_rise.ensures ∙ c.if-not-rows_rise.false) _ _ c.rows_open.ensures
-    c.slots_told-told.ensures.2 c.if-not-rows_open.false _ c.slots_told-told.ensures.0
-    (not-false c.slots_told-told.result.sound c.if-not-told.false) c.if-used-gt-ROWS.false in
-    (tells_sound h _ (decides ∙ le-leb (promised h) (free h) few) owed, search rules)
+    rooms h up _ _ c.rows_open.ensures told.2 c.if-not-rows_open.false _ told.0
+    c.if-not-told.false c.if-used-gt-ROWS.false in
+    (tells_sound h _ (decides ∙ le-leb (promised h) (free h) few) told.1, search rules)
