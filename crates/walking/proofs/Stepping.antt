@@ -72,6 +72,10 @@ refused_same room c rec o is not =
 never_going : {why : Stop} → Some why ≡ None → ⊥
 never_going e = let no : ◌≡◌ {A = ℕ} 0 1 = cc in omega arith
 
+-- no other answer has this number
+pub number_done : (a : Answer) → number_of a ≡ 0 → a ≡ Done
+number_done a e = grind arith
+
 module _ (k : ℕ) (o : Outcome) where
   heard_done : number_of o.answer ≡ 0 → heard k o ≡ Kept (progress o.core (k + 1))
   unfolding heard

@@ -1,12 +1,12 @@
 -- Laws of a PTR, MPR or FTR in the body: its body is not read, so it is accepted and changes nothing.
 -- Assumes nothing.
 use Rattle.std.specs.Prelude.{Some, None}
-use mathlib.Core.Path.{◌≡◌, refl, ap, sym, ◌∙◌}
+use mathlib.Core.Path.{◌≡◌, refl, ap, sym, subst, ◌∙◌}
 use mathlib.Core.Bool.{Bool, true, false, ◌&&◌, ◌||◌, false≢true}
 use mathlib.Core.List.{List}
 use Prim.Native.Nat.{ℕ, ◌+◌, ◌-◌, ◌≤◌, ◌<◌}
 use native.Mathlib.Omega.{arith}
-use borrow.Author.Tests.{eqb-true, eq-eqb, ne_eqb}
+use borrow.Author.Tests.{eqb-true, eq-eqb}
 use lib.Dec.{eqb}
 use lib.ListN.{length, get_or, take, drop, length-drop, take-append-drop}
 use lib.Seq.{length-take-le, get_or-take, get_or-drop}
@@ -43,29 +43,7 @@ use Rattle.walking.specs.Passing.{is_body, is_test}
 use Rattle.walking.specs.Lent.{Walkable, Stepped}
 use Rattle.walking.proofs.Stepping.{step_accepted}
 
--- ---- what the test is, and what it tells
-
-module _ (place : Place) (typ sub : ℕ) where
-  pub test_type : (typ ≡ 15 → ⊥) → is_test place typ sub ≡ false
-  unfolding is_test
-  test_type h = rw (ne_eqb typ 15 h)
-
-  module _ (is : typ ≡ 15) where
-    pub test_ptr : sub ≡ 10 → is_test place typ sub ≡ is_body place
-    unfolding is_test
-    test_ptr e = rw (is, e)
-
-    pub test_mpr : sub ≡ 15 → is_test place typ sub ≡ is_body place
-    unfolding is_test
-    test_mpr e = rw (is, e)
-
-    pub test_ftr : sub ≡ 20 → is_test place typ sub ≡ is_body place
-    unfolding is_test
-    test_ftr e = rw (is, e)
-
-    pub test_none : (sub ≡ 10 → ⊥) → (sub ≡ 15 → ⊥) → (sub ≡ 20 → ⊥) → is_test place typ sub ≡ false
-    unfolding is_test
-    test_none a b c = rw (is, ne_eqb sub 10 a, ne_eqb sub 15 b, ne_eqb sub 20 c)
+-- ---- what the test tells
 
 body_told : (p : Place) → is_body p ≡ true → p ≡ Body
 body_told Start e = absurd (false≢true e)
@@ -167,7 +145,7 @@ module _ (room : Room) (most : ℕ) (keys counts parts : List ℕ) (s : Stage) (
         (both_left (eqb sub 10 || (eqb sub 15 || eqb sub 20)) (is_body s.place) behind))
 
     pub step_test : Stepped room most keys counts parts s keys counts parts
-        (stage s.used (stage_standing s) (s.accepted + 1) None (s.at + n) true) bytes
+        (stage s.used (stage_standing s) (s.accepted + 1) None (s.at + n) s.more) bytes
     step_test =
         let st = stage_standing s in
         let size : s.at + n - s.at ≡ n = omega arith in
@@ -175,5 +153,10 @@ module _ (room : Room) (most : ℕ) (keys counts parts : List ℕ) (s : Stage) (
         ≡ delivered room (core keys counts s.used st parts) (take (s.at + n - s.at) (drop s.at bytes))
         = delivered_stands room (core keys counts s.used st parts) (take (s.at + n - s.at) (drop s.at bytes)) st
         (rw size judged) in
-        step_accepted room most keys counts parts s bytes w looking n is low there range refl Done keys counts
-        s.used st parts did refl
+        subst
+        (λ (b : Bool).
+        Stepped room most keys counts parts s keys counts parts
+        (stage s.used st (s.accepted + 1) None (s.at + n) b) bytes)
+        (sym looking)
+        (step_accepted room most keys counts parts s bytes w looking n is low there range refl Done keys counts
+        s.used st parts did refl)

@@ -6,6 +6,7 @@ ghost use Rattle.walking.specs.Lent.{Walkable, Stepped, Arrived};
 
 use crate::passing::is_test;
 use crate::{Stage, Stop};
+use answers::Answer;
 use cutting::needed;
 use house::Room;
 use lent::deliver_lent;
@@ -14,11 +15,9 @@ use session::Standing;
 pub fn standing_of(s: Stage) -> Standing
     ensures { result ≡ stage_standing s }
 {
-    let place = s.place;
-    let order = s.order;
     Standing {
-        place,
-        order,
+        place: s.place,
+        order: s.order,
         opened: s.opened,
         pcr: s.pcr,
         results: s.results,
@@ -37,12 +36,10 @@ pub fn stage_of(
 ) -> Stage
     ensures { result ≡ stage used st accepted fate at more }
 {
-    let place = st.place;
-    let order = st.order;
     Stage {
         used,
-        place,
-        order,
+        place: st.place,
+        order: st.order,
         opened: st.opened,
         pcr: st.pcr,
         results: st.results,
@@ -58,20 +55,10 @@ pub fn stage_of(
 fn stay(s: Stage, fate: Option<Stop>) -> Stage
     ensures { result ≡ stage s.used (stage_standing s) s.accepted fate s.at false }
 {
-    let place = s.place;
-    let order = s.order;
     Stage {
-        used: s.used,
-        place,
-        order,
-        opened: s.opened,
-        pcr: s.pcr,
-        results: s.results,
-        wafers: s.wafers,
-        accepted: s.accepted,
         fate,
-        at: s.at,
         more: false,
+        ..s
     }
 }
 
@@ -106,15 +93,12 @@ fn take_record(
         parts,
         &bytes[at..next],
     );
-    let answer = d.answer;
     let st = d.standing;
-    if answers::number(answer) == 0 {
-        let place = st.place;
-        let order = st.order;
-        return Stage {
+    match d.answer {
+        Answer::Done => Stage {
             used: d.used,
-            place,
-            order,
+            place: st.place,
+            order: st.order,
             opened: st.opened,
             pcr: st.pcr,
             results: st.results,
@@ -123,10 +107,12 @@ fn take_record(
             fate: None,
             at: next,
             more: true,
-        };
+        },
+        refused => {
+            let why = Some(Stop::Refused(refused));
+            stage_of(d.used, st, s.accepted, why, at, false)
+        }
     }
-    let why = Stop::Refused(answer);
-    stage_of(d.used, st, s.accepted, Some(why), at, false)
 }
 
 // The record at `at`, if it is there whole.
@@ -145,30 +131,19 @@ fn step(
         keys.new counts.new parts.new result bytes.now }
 {
     let at = s.at;
-    let place = s.place;
-    let order = s.order;
-    let end = bytes.len();
-    let n = needed(standing_of(s), &bytes[at..end]);
+    let n = needed(standing_of(s), &bytes[at..]);
     if most < n {
-        let why = Stop::TooLong;
-        return stay(s, Some(why));
+        return stay(s, Some(Stop::TooLong));
     }
-    if end - at < n {
+    if bytes.len() - at < n {
         return stay(s, None);
     }
-    if is_test(place, bytes[at + 2], bytes[at + 3]) {
+    if is_test(s.place, bytes[at + 2], bytes[at + 3]) {
         return Stage {
-            used: s.used,
-            place,
-            order,
-            opened: s.opened,
-            pcr: s.pcr,
-            results: s.results,
-            wafers: s.wafers,
             accepted: s.accepted + 1,
             fate: None,
             at: at + n,
-            more: true,
+            ..s
         };
     }
     take_record(keys, counts, guesses, parts, room, most, s, bytes, n)
