@@ -1,15 +1,16 @@
 -- Laws of the carry and the chunk: what a walk over either comes to, how bytes move, and what is held and taken at the
 -- end.
 -- Assumes nothing.
-use Rattle.std.specs.Prelude.{Option, Some, None}
+use Rattle.std.specs.Prelude.{Option, Some, None, min}
 use mathlib.Core.Path.{◌≡◌, refl, ap, sym, subst, ◌∙◌}
-use mathlib.Core.Bool.{Bool, true, false, cond, not, ◌&&◌, false≢true}
-use mathlib.Core.List.{List, [], ◌∷◌, ◌++◌, append_assoc, append-nil}
-use Prim.Native.Nat.{ℕ, zero, suc, ◌+◌, ◌-◌, ◌≤◌, ◌<◌}
+use mathlib.Core.Bool.{Bool, true, false, not, ◌&&◌, false≢true}
+use mathlib.Core.List.{List, [], ◌++◌, append_assoc, append-nil}
+use Prim.Native.Nat.{ℕ, ◌+◌, ◌-◌, ◌≤◌, ◌<◌}
 use native.Mathlib.Omega.{arith}
-use borrow.Author.Tests.{le-leb, lt-leb, leb-true, leb-false, ltb-true, ltb-false, ne_eqb}
-use lib.Dec.{leb, ltb, eqb}
+use borrow.Author.Tests.{ltb-true, ltb-false, ne_eqb}
+use lib.Dec.{ltb, eqb}
 use lib.ListN.{length, take, drop, length-append, length-drop, take-append-drop, drop_of_length-le}
+use Rattle.std.proofs.lemmas.List.{take_min, take-take, take-append-le}
 use lib.Seq.{get_or-drop, drop-drop, length-take-le, take_all, take-add, take-append_seam}
 use Rattle.prelude.proofs.Both.{both_right}
 use Rattle.numbers.specs.Laws.{Bytes}
@@ -32,35 +33,17 @@ use Rattle.walking.specs.Lent.{past_count, Walkable, Arrived}
 use Rattle.output.specs.Placed.{part, Put}
 use Rattle.output.proofs.Laws.{length_part}
 use Rattle.pouring.specs.declared.Pour.{Pour}
-use Rattle.pouring.specs.Pouring.{pouring, Lends, reason, answer_of, ends_in, pour_core, is_going, goes_on, smaller}
+use Rattle.pouring.specs.Pouring.{pouring, Lends, reason, answer_of, ends_in, pour_core, is_going, goes_on}
 use Rattle.pouring.specs.Pouring.{halted, held_to, Carried, Flows, Tops, Pours}
 use Rattle.pouring.proofs.Alike.{lendable, lends_back, ends_told}
 
 abbrev made : Core → Answer → List ℕ → ℕ → Poured Core
 made c a held taken = record { state = c; answer = a; held = held; taken = taken }
 
--- ---- the smaller of two
-
-pub smaller_left : (a b : ℕ) → a ≤ b → smaller a b ≡ a
-smaller_left a b h = rw (le-leb a b h)
-
-pub smaller_right : (a b : ℕ) → b < a → smaller a b ≡ b
-smaller_right a b h = rw (lt-leb a b h)
-
 -- ---- parts of lists
 
 bytes_drop : (at : ℕ) (l : List ℕ) → Bytes l → Bytes (drop at l)
 bytes_drop at l low k = rw (get_or-drop at l k 0) (low (at + k))
-
--- no more than there are
-take_smaller : (n : ℕ) (l : List ℕ) → take (smaller n (length l)) l ≡ take n l
-take_smaller n l = go (leb n (length l)) refl
-  where
-    go : (b : Bool) → leb n (length l) ≡ b → take (cond b n (length l)) l ≡ take n l
-    go true is = refl
-    go false is =
-        take_all (length l) l (omega arith)
-        ∙ sym (take_all n l (omega (arith, leb-false n (length l) is)))
 
 -- a part of a chunk and what is behind it
 drop_part : (at n : ℕ) (l : List ℕ) → drop at l ≡ take n (drop at l) ++ drop (at + n) l
@@ -103,40 +86,38 @@ module _ (room : Room) (keys counts parts : List ℕ) (used : ℕ) (st : Standin
 
 -- ---- the carry, walked
 
-module _ (room : Room) (keys counts parts : List ℕ) (p : Pour) (carry bytes : List ℕ)
-    (c : Carried room keys counts parts p carry) (are : bytes ≡ take p.held carry) where
-  size : length bytes ≡ p.held
-  size = ap length are ∙ length-take-le p.held carry (omega (arith, c.within, c.long))
+module _ (room : Room) (keys counts parts : List ℕ) (p : Pour) (carry : List ℕ)
+    (c : Carried room keys counts parts p carry) where
+  abbrev front : List ℕ
+  front = take p.held carry
+
+  size : length front ≡ p.held
+  size = length-take-le p.held carry (omega (arith, c.within, c.long))
 
   pub carry_begins : {s : Stage} → s ≡ stage p.used p.standing 0 None 0 true
-      → Walkable room longest keys counts parts s bytes × (s.more ≡ true)
+      → Walkable room longest keys counts parts s front × (s.more ≡ true)
   carry_begins is =
-      walk_begins room keys counts parts p.used p.standing 0 bytes c.lends (omega arith)
+      walk_begins room keys counts parts p.used p.standing 0 front c.lends (omega arith)
       (omega (arith, size, c.within)) is
 
   module _ {s : Stage} (first : s ≡ stage p.used p.standing 0 None 0 true) (ks cs ps : List ℕ) (w : Stage)
-      (a : Arrived room longest keys counts parts s ks cs ps w bytes) where
-    pub carry_left : w.at ≤ p.held
-    carry_left = omega (arith, a.within, size)
-
-    pub carry_flows : Bytes bytes → {next : Standing} → next ≡ stage_standing w → (held : ℕ) (new : List ℕ)
+      (a : Arrived room longest keys counts parts s ks cs ps w front) where
+    pub carry_flows : Bytes front → {next : Standing} → next ≡ stage_standing w → (held : ℕ) (new : List ℕ)
         → held ≡ p.held - w.at → take held new ≡ take held (drop w.at carry)
         → Flows room keys counts parts p carry ks cs ps
         (record { used = w.used; standing = next; fate = w.fate; held = held; at = p.at }) new
     carry_flows range {next} stands held new count moved =
-        let left : take held new ≡ drop w.at bytes
+        let left : take held new ≡ drop w.at front
         = moved
         ∙ ap (λ (n : ℕ). take n (drop w.at carry)) count
-        ∙ sym (drop_take w.at p.held carry)
-        ∙ ap (λ (l : List ℕ). drop w.at l) (sym are) in
+        ∙ sym (drop_take w.at p.held carry) in
         record {
           is =
               ap (λ (l : List ℕ). ends_in w.fate (core ks cs w.used next ps) l) left
-              ∙ walk_ends room keys counts parts p.used p.standing 0 bytes range first ks cs ps w a stands
-              ∙ ap (λ (l : List ℕ). walked (pouring room) (Waits (pour_core keys counts parts p) []) l) are;
-          lends = walk_lends room keys counts parts p.used p.standing 0 bytes range first ks cs ps w a stands;
+              ∙ walk_ends room keys counts parts p.used p.standing 0 front range first ks cs ps w a stands;
+          lends = walk_lends room keys counts parts p.used p.standing 0 front range first ks cs ps w a stands;
           within = omega (arith, count);
-          few = λ goes. omega (arith, count, size, length-drop w.at bytes, a.few goes);
+          few = λ goes. omega (arith, count, size, length-drop w.at front, a.few goes);
           same = refl;
         }
 
@@ -196,21 +177,8 @@ part_fits None st chunk from within range few end is =
     let size = length-drop from chunk in
     (omega (arith, is), omega (arith, is), omega (arith, is, size, few refl))
 part_fits (Some why) st chunk from within range few end is =
-    go (leb (needed st (drop from chunk)) (length chunk - from)) refl is
-  where
-    go : (b : Bool) → leb (needed st (drop from chunk)) (length chunk - from) ≡ b
-        → end ≡ from + cond b (needed st (drop from chunk)) (length chunk - from)
-        → (from ≤ end) × (end ≤ length chunk) × (end - from ≤ carry_length)
-    go true low e =
-        let n = needed st (drop from chunk) in
-        let most = needed_most st (drop from chunk) (bytes_drop from chunk range) in
-        let small = leb-true n (length chunk - from) low in
-        (omega (arith, e), omega (arith, e, small), omega (arith, e, most))
-    go false high e =
-        let n = needed st (drop from chunk) in
-        let most = needed_most st (drop from chunk) (bytes_drop from chunk range) in
-        let large = leb-false n (length chunk - from) high in
-        (omega (arith, e), omega (arith, e), omega (arith, e, most, large))
+    let most = needed_most st (drop from chunk) (bytes_drop from chunk range) in
+    (omega (arith, is), omega (arith, is, within), omega (arith, is, most))
 
 pub chunk_pours : (fate : Option Stop) (c : Core) (chunk carry new : List ℕ) (from end n : ℕ) → from ≤ length chunk
     → Bytes chunk → end ≡ held_to fate c.standing chunk from → Put (part from (end - from) chunk) carry n new
@@ -242,43 +210,20 @@ chunk_pours fate c chunk carry new from end n within range is put = go fate is
         = omega (arith, length-drop m (drop from chunk), size) in
         let held : take (end - from) (drop from chunk) ≡ take m (drop from chunk)
         = ap (λ (k : ℕ). take k (drop from chunk)) (sized e)
-        ∙ take_smaller m (drop from chunk) in
+        ∙ take_min m (drop from chunk) in
         rw (whole, front, held, short, append-nil)
         (ap (λ (k : ℕ). made c (reason why) (take m (drop from chunk)) k) (taken e))
       where
         sized : end ≡ held_to (Some why) c.standing chunk from
-            → end - from ≡ smaller (needed c.standing (drop from chunk)) (length (drop from chunk))
+            → end - from ≡ min (needed c.standing (drop from chunk)) (length (drop from chunk))
         sized e = rw size (omega (arith, e))
 
         taken : end ≡ held_to (Some why) c.standing chunk from
             → end ≡ length chunk - length (drop (needed c.standing (drop from chunk)) (drop from chunk))
-        taken e = by (leb (needed c.standing (drop from chunk)) (length chunk - from)) refl e
-          where
-            by : (b : Bool) → leb (needed c.standing (drop from chunk)) (length chunk - from) ≡ b
-                → end ≡ from + cond b (needed c.standing (drop from chunk)) (length chunk - from)
-                → end ≡ length chunk - length (drop (needed c.standing (drop from chunk)) (drop from chunk))
-            by true low e =
-                let m = needed c.standing (drop from chunk) in
-                let small = leb-true m (length chunk - from) low in
-                omega (arith, e, small, size, length-drop m (drop from chunk))
-            by false high e =
-                let m = needed c.standing (drop from chunk) in
-                let large = leb-false m (length chunk - from) high in
-                omega (arith, e, large, size, length-drop m (drop from chunk))
+        taken e =
+            omega (arith, e, within, size, length-drop (needed c.standing (drop from chunk)) (drop from chunk))
 
 -- ---- what is left once the carry asks for no more
-
--- parts of parts
-take_front : (k : ℕ) (a b : List ℕ) → k ≤ length a → take k (a ++ b) ≡ take k a
-take_front zero a b h = refl
-take_front (suc k) [] b h = absurd (omega arith)
-take_front (suc k) (x ∷ xs) b h = ap (λ (l : List ℕ). x ∷ l) (take_front k xs b (omega arith))
-
-take_shorter : (k e : ℕ) (l : List ℕ) → k ≤ e → take k (take e l) ≡ take k l
-take_shorter zero e l h = refl
-take_shorter (suc k) zero l h = absurd (omega arith)
-take_shorter (suc k) (suc e) [] h = refl
-take_shorter (suc k) (suc e) (x ∷ xs) h = ap (λ (l : List ℕ). x ∷ l) (take_shorter k e xs (omega arith))
 
 -- a refused record in the carry: n is its length, and `left` what is behind all that is in the carry
 module _ (n at : ℕ) (carry left : List ℕ) (held : ℕ) (within : held ≤ length carry) (all : ℕ)
@@ -299,43 +244,25 @@ module _ (n at : ℕ) (carry left : List ℕ) (held : ℕ) (within : held ≤ le
   behind =
       let size : length rest - all ≡ held - n - at = omega (arith, rest_long) in
       ap (λ (k : ℕ). take k rest) size
-      ∙ take_front (held - n - at) (drop n bytes) left (omega (arith, length-drop n bytes, long))
+      ∙ take-append-le (held - n - at) (drop n bytes) left (omega (arith, length-drop n bytes, long))
 
-  held_halted : take (smaller n held + (held - smaller n held - at)) carry
-      ≡ take n bytes ++ take (length rest - all) rest
-  held_halted = go (leb n held) refl
-    where
-      go : (b : Bool) → leb n held ≡ b
-          → take (cond b n held + (held - cond b n held - at)) carry ≡ take n bytes ++ take (length rest - all) rest
-      go true low =
-          let small = leb-true n held low in
-          sym
-          (ap (λ (l : List ℕ). take n bytes ++ l) behind
-          ∙ sym (take-add n (held - n - at) bytes)
-          ∙ take_shorter (n + (held - n - at)) held carry (omega (arith, small)))
-      go false high =
-          let large = leb-false n held high in
-          let whole : held + (held - held - at) ≡ held = omega arith in
-          let none : held - n - at ≡ 0 = omega (arith, large) in
-          ap (λ (k : ℕ). take k carry) whole
-          ∙ sym
-          (ap (λ (l : List ℕ). take n bytes ++ l) (behind ∙ ap (λ (k : ℕ). take k (drop n bytes)) none)
-          ∙ append-nil (take n bytes)
-          ∙ take_all n bytes (omega (arith, long, large)))
+  held_halted : take (min n held + (held - min n held - at)) carry ≡ take n bytes ++ take (length rest - all) rest
+  held_halted =
+      let more = n + (held - n - at) in
+      let front : min more held ≡ min n held + (held - min n held - at) = omega arith in
+      sym
+      (ap (λ (l : List ℕ). take n bytes ++ l) behind
+      ∙ sym (take-add n (held - n - at) bytes)
+      ∙ sym (take_min more bytes)
+      ∙ ap (λ (k : ℕ). take (min more k) bytes) long
+      ∙ take-take (min more held) held carry (omega arith)
+      ∙ ap (λ (k : ℕ). take k carry) front)
 
-  taken_halted : at - (held - smaller n held) ≡ all - length rest
-  taken_halted = go (leb n held) refl
-    where
-      go : (b : Bool) → leb n held ≡ b → at - (held - cond b n held) ≡ all - length rest
-      go true low = omega (arith, rest_long)
-      go false high = omega (arith, rest_long, leb-false n held high)
+  taken_halted : at - (held - min n held) ≡ all - length rest
+  taken_halted = omega (arith, rest_long, most)
 
-  few_halted : smaller n held + (held - smaller n held - at) ≤ held
-  few_halted = go (leb n held) refl
-    where
-      go : (b : Bool) → leb n held ≡ b → cond b n held + (held - cond b n held - at) ≤ held
-      go true low = omega (arith, leb-true n held low)
-      go false high = omega arith
+  few_halted : min n held + (held - min n held - at) ≤ held
+  few_halted = omega arith
 
 pub stop_pours : (room : Room) (why : Stop) (keys counts parts : List ℕ) (p : Pour) (carry chunk : List ℕ)
     → p.at ≤ length chunk → p.held ≤ carry_length → length carry ≡ carry_length → Bytes carry → p.fate ≡ Some why
@@ -388,13 +315,6 @@ rest_pours room c p carry chunk upto within goes some done =
       is = rw (goes, drop_of_length-le chunk {i = p.at} all, same);
       within = within;
     }
-
--- nothing in the carry
-pub none_held : (room : Room) (c : Core) (p : Pour) (carry chunk : List ℕ) {d : Core} {r : Pour} {new : List ℕ}
-    → p.fate ≡ None → p.held ≡ 0
-    → Pours (walked (pouring room) (Waits c []) (drop p.at chunk)) chunk d r new
-    → Pours (walked (pouring room) (ends_in p.fate c (take p.held carry)) (drop p.at chunk)) chunk d r new
-none_held room c p carry chunk goes none = rw (goes, none) (λ h. h)
 
 -- ---- from one walk over the carry to the next
 
@@ -481,43 +401,3 @@ flow_on room w c q carry chunk d r new goes f t =
       few = t.few;
       upto = t.upto;
     }
-
--- ---- what the small functions return
-
-pub smaller_some : (a b : ℕ) → 1 ≤ a → 1 ≤ b → 1 ≤ smaller a b
-smaller_some a b one two = go (leb a b)
-  where
-    go : (t : Bool) → 1 ≤ cond t a b
-    go true = one
-    go false = two
-
-pub goes_none : (p : Pour) (end : ℕ) → p.fate ≡ None → p.held ≡ 0 → false ≡ goes_on p end
-goes_none p end goes none = rw (goes, none)
-
-pub goes_more : (p : Pour) (end : ℕ) → p.fate ≡ None → (p.held ≡ 0 → ⊥) → ltb p.at end ≡ goes_on p end
-goes_more p end goes some = rw (goes, ne_eqb p.held 0 some)
-
-module _ (p : Pour) (long n : ℕ) (is : n ≡ smaller long p.held) where
-  pub halts_low : p.held - n ≤ p.at
-      → record { used = p.used; standing = p.standing; fate = p.fate; held = n; at = p.at - (p.held - n) }
-      ≡ halted p long
-  halts_low low = let same : n + (p.held - n - p.at) ≡ n = omega (arith, low) in rw (← is, same)
-
-  pub halts_high : n ≤ p.held → p.at < p.held - n
-      → record { used = p.used; standing = p.standing; fate = p.fate; held = p.held - p.at; at = 0 } ≡ halted p long
-  halts_high within high =
-      let same : n + (p.held - n - p.at) ≡ p.held - p.at = omega (arith, within, high) in
-      let none : p.at - (p.held - n) ≡ 0 = omega (arith, high) in
-      rw (← is, same, none)
-
-module _ (st : Standing) (chunk : List ℕ) (from : ℕ) {f : (Option Stop)} where
-  pub held_all : f ≡ None → length chunk ≡ held_to f st chunk from
-  held_all e = rw e
-
-  pub held_record : {why : Stop} → f ≡ Some why → {n m : ℕ} → n ≡ smaller m (length chunk - from)
-      → m ≡ needed st (take (length chunk - from) (drop from chunk)) → from + n ≡ held_to f st chunk from
-  held_record e {n} {m} is told =
-      let long : m ≡ needed st (drop from chunk)
-      = told ∙ ap (λ (l : List ℕ). needed st l)
-      (take_all (length chunk - from) (drop from chunk) (omega (arith, length-drop from chunk))) in
-      rw (e, is, long)

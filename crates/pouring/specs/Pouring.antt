@@ -6,7 +6,7 @@
 --   halted     a refused record in the carry, and what is taken of the chunk then
 --   Flows, Tops, Pours   what the functions over the carry and the chunk come to
 -- Assumes nothing.
-use Rattle.std.specs.Prelude.{◌≡◌, Bool, true, false, cond, not, ◌&&◌, List, [], ◌++◌, ℕ, ◌+◌, ◌-◌, ◌≤◌, ◌<◌, eqb, leb, ltb, length, take, drop, Option, Some, None}
+use Rattle.std.specs.Prelude.{◌≡◌, Bool, true, false, cond, not, ◌&&◌, List, [], ◌++◌, ℕ, ◌+◌, ◌-◌, ◌≤◌, ◌<◌, eqb, ltb, min, length, take, drop, Option, Some, None}
 use Rattle.numbers.specs.Laws.{Bytes}
 use Rattle.answers.specs.declared.Answer.{Answer}
 use Rattle.answers.specs.declared.Answer.TheVariants.{Done, NotOneRecord}
@@ -65,14 +65,11 @@ is_going (Some why) = false
 abbrev pub goes_on : Pour → ℕ → Bool
 goes_on p end = is_going p.fate && (not (eqb p.held 0) && ltb p.at end)
 
-abbrev pub smaller : ℕ → ℕ → ℕ
-smaller a b = cond (leb a b) a b
-
 -- A refused record of so many bytes in the carry: bytes behind it that came from the chunk are not taken, and those that
 -- were held before stay (`◌-◌` stops at 0).
 abbrev pub halted : Pour → ℕ → Pour
 halted p long =
-    let n = smaller long p.held in
+    let n = min long p.held in
     record {
       used = p.used;
       standing = p.standing;
@@ -84,7 +81,7 @@ halted p long =
 -- what is held of the bytes left of a chunk ends with it, or with the refused record
 abbrev pub held_to : Option Stop → Standing → List ℕ → ℕ → ℕ
 held_to None st chunk from = length chunk
-held_to (Some why) st chunk from = from + smaller (needed st (drop from chunk)) (length chunk - from)
+held_to (Some why) st chunk from = from + min (needed st (drop from chunk)) (length chunk - from)
 
 -- ---- what the functions come to
 

@@ -8,8 +8,8 @@ ghost use Rattle.std.specs.Prelude.{◌≡◌, false, [], ◌++◌, ◌+◌, ◌
 ghost use Rattle.house.specs.House.{carry_length};
 ghost use Rattle.cutting.specs.Needed.{needed};
 ghost use Rattle.cutting.specs.Walk.{Waits, walked};
-ghost use Rattle.pouring.specs.Pouring.{pouring, Lends, reason, answer_of, ends_in, pour_core, goes_on};
-ghost use Rattle.pouring.specs.Pouring.{smaller, halted, held_to, Carried, Flows, Tops, Pours};
+ghost use Rattle.pouring.specs.Pouring.{pouring, Lends, answer_of, ends_in, pour_core, goes_on};
+ghost use Rattle.pouring.specs.Pouring.{halted, held_to, Carried, Flows, Tops, Pours};
 
 use answers::Answer;
 use cutting::{keep, needed};
@@ -29,23 +29,14 @@ pub struct Pour {
     pub at: usize,
 }
 
-// What stopped it, as an answer: no record is too long for a carry, so that is never said.
-fn reason_of(why: Stop) -> Answer
-    ensures { result ≡ reason why }
-{
-    match why {
-        Stop::Refused(answer) => answer,
-        Stop::TooLong => Answer::NotOneRecord,
-    }
-}
-
-// What a feed that came so far is answered.
+// What a feed that came so far is answered: no record is too long for a carry, so that is never said.
 pub fn answer_of(fate: Option<Stop>) -> Answer
     ensures { result ≡ answer_of fate }
 {
     match fate {
         None => Answer::Done,
-        Some(why) => reason_of(why),
+        Some(Stop::Refused(answer)) => answer,
+        Some(Stop::TooLong) => Answer::NotOneRecord,
     }
 }
 
@@ -53,16 +44,7 @@ pub fn answer_of(fate: Option<Stop>) -> Answer
 fn goes_on(p: Pour, end: usize) -> bool
     ensures { result ≡ goes_on p end }
 {
-    let fate = p.fate;
-    match fate {
-        None => {
-            if p.held == 0 {
-                return false;
-            }
-            p.at < end
-        }
-        Some(_) => false,
-    }
+    p.fate.is_none() && p.held != 0 && p.at < end
 }
 
 // The records that stand whole in the carry; what is left of it comes to the front.
@@ -79,7 +61,6 @@ fn pour_carry(
     ensures { Flows room keys.old counts.old parts.old p carry.old
         keys.new counts.new parts.new result carry.new }
 {
-    let end = p.held;
     let w = walk(
         keys,
         counts,
@@ -88,46 +69,24 @@ fn pour_carry(
         room,
         House::CARRY,
         stage_of(p.used, p.standing, 0, None, 0, true),
-        &carry[0..end],
+        &carry[..p.held],
     );
-    let standing = standing_of(w);
-    let fate = w.fate;
-    let held = keep(carry, w.at, end);
     Pour {
         used: w.used,
-        standing,
-        fate,
-        held,
+        standing: standing_of(w),
+        fate: w.fate,
+        held: keep(carry, w.at, p.held),
         at: p.at,
     }
 }
 
-fn smaller(a: usize, b: usize) -> usize
-    ensures { (result ≡ smaller a b) × ((result ≤ a) × (result ≤ b)) }
-{
-    if a <= b {
-        return a;
-    }
-    b
-}
-
-// How many bytes the record lacks: one at the least, since what stands in the carry is no whole record.
-fn lacking(wanted: usize, held: usize) -> usize
-    ensures { 1 ≤ result }
-{
-    if held < wanted {
-        return wanted - held;
-    }
-    1
-}
-
-// How many bytes to move: what the record lacks, if there are as many and there is room.
+// How many bytes to move: what the record lacks, one at the least, since what stands in the carry is no whole record; if
+// there are as many and there is room.
 fn share(wanted: usize, held: usize, left: usize, room: usize) -> usize
     requires { (1 ≤ left) × (1 ≤ room) }
     ensures { (1 ≤ result) × ((result ≤ left) × (result ≤ room)) }
 {
-    let n = smaller(lacking(wanted, held), left);
-    smaller(n, room)
+    wanted.saturating_sub(held).max(1).min(left).min(room)
 }
 
 // Moves bytes of the chunk behind those held, for the record that is not whole.
@@ -137,7 +96,7 @@ fn top_up(st: Standing, carry: &mut [u8], held: usize, chunk: &[u8], at: usize) 
         × (take (held + result) carry.new
         ≡ take held carry.old ++ take result (drop at chunk.now)))) }
 {
-    let wanted = needed(st, &carry[0..held]);
+    let wanted = needed(st, &carry[..held]);
     let n = share(wanted, held, chunk.len() - at, carry.len() - held);
     put_part(&mut carry[held..], chunk, at, n)
 }
@@ -147,26 +106,12 @@ fn stop_at(p: Pour, carry: &[u8]) -> Pour
     requires { p.held ≤ length carry.now }
     ensures { result ≡ halted p (needed p.standing (take p.held carry.now)) }
 {
-    let end = p.held;
-    let standing = p.standing;
-    let fate = p.fate;
-    let n = smaller(needed(standing, &carry[0..end]), end);
-    let behind = end - n;
-    if behind <= p.at {
-        return Pour {
-            used: p.used,
-            standing,
-            fate,
-            held: n,
-            at: p.at - behind,
-        };
-    }
+    let behind = p.held - needed(p.standing, &carry[..p.held]).min(p.held);
+    let left = behind.min(p.at);
     Pour {
-        used: p.used,
-        standing,
-        fate,
-        held: end - p.at,
-        at: 0,
+        held: p.held - left,
+        at: p.at - left,
+        ..p
     }
 }
 
@@ -175,13 +120,9 @@ fn held_to(fate: Option<Stop>, st: Standing, chunk: &[u8], from: usize) -> usize
     requires { from ≤ length chunk.now }
     ensures { result ≡ held_to fate st chunk.now from }
 {
-    let end = chunk.len();
     match fate {
-        None => end,
-        Some(_) => {
-            let n = smaller(needed(st, &chunk[from..end]), end - from);
-            from + n
-        }
+        None => chunk.len(),
+        Some(_) => from + needed(st, &chunk[from..]).min(chunk.len() - from),
     }
 }
 
@@ -203,7 +144,6 @@ fn pour_chunk(
         (drop p.at chunk.now)) chunk.now
         (pour_core keys.new counts.new parts.new result) result carry.new }
 {
-    let at = p.at;
     let w = walk(
         keys,
         counts,
@@ -211,19 +151,16 @@ fn pour_chunk(
         parts,
         room,
         House::CARRY,
-        stage_of(p.used, p.standing, 0, None, at, true),
+        stage_of(p.used, p.standing, 0, None, p.at, true),
         chunk,
     );
     let standing = standing_of(w);
-    let fate = w.fate;
-    let from = w.at;
-    let end = held_to(fate, standing, chunk, from);
-    let held = put_part(carry, chunk, from, end - from);
+    let end = held_to(w.fate, standing, chunk, w.at);
     Pour {
         used: w.used,
         standing,
-        fate,
-        held,
+        fate: w.fate,
+        held: put_part(carry, chunk, w.at, end - w.at),
         at: end,
     }
 }
@@ -245,16 +182,12 @@ fn pour_more(
         carry.old chunk.now
         (pour_core keys.new counts.new parts.new result) result carry.new }
 {
-    let at = p.at;
-    let held = p.held;
-    let standing = p.standing;
-    let n = top_up(standing, carry, held, chunk, at);
+    let n = top_up(p.standing, carry, p.held, chunk, p.at);
     let topped = Pour {
-        used: p.used,
-        standing,
         fate: None,
-        held: held + n,
-        at: at + n,
+        held: p.held + n,
+        at: p.at + n,
+        ..p
     };
     pour_carry(keys, counts, guesses, parts, room, topped, carry)
 }
@@ -279,15 +212,10 @@ fn pour_rest(
         (drop p.at chunk.now)) chunk.now
         (pour_core keys.new counts.new parts.new result) result carry.new }
 {
-    let fate = p.fate;
-    match fate {
+    match p.fate {
         Some(_) => stop_at(p, carry),
-        None => {
-            if p.held == 0 {
-                return pour_chunk(keys, counts, guesses, parts, room, p, carry, chunk);
-            }
-            p
-        }
+        None if p.held == 0 => { pour_chunk(keys, counts, guesses, parts, room, p, carry, chunk) }
+        None => p,
     }
 }
 
@@ -308,9 +236,8 @@ pub fn pour_all(
         (take p.held carry.old ++ chunk.now)) chunk.now
         (pour_core keys.new counts.new parts.new result) result carry.new }
 {
-    let end = chunk.len();
     let mut q = pour_carry(keys, counts, guesses, parts, room, p, carry);
-    while goes_on(q, end) {
+    while goes_on(q, chunk.len()) {
         q = pour_more(keys, counts, guesses, parts, room, q, carry, chunk);
     }
     pour_rest(keys, counts, guesses, parts, room, q, carry, chunk)

@@ -13,7 +13,7 @@ abbrev pub invariant-loop-keys : goal.invariant-loop-keys
 invariant-loop-keys l = Flowing l.room
     (walked (pouring l.room) (ends_in l.initial.q.fate (pour_core l.initial.keys l.initial.counts l.initial.parts l.initial.q) (take l.initial.q.held l.initial.carry))
     (drop l.initial.q.at l.chunk)) (pour_core l.keys l.counts l.parts l.q) l.q l.carry l.chunk
-    × (l.end ≡ length l.chunk) × (length l.carry ≡ carry_length) × (length l.keys ≡ length l.initial.keys)
+    × (length l.carry ≡ carry_length) × (length l.keys ≡ length l.initial.keys)
     × (length l.counts ≡ length l.initial.counts) × (length l.guesses ≡ length l.initial.guesses) × (length l.parts ≡ length l.initial.parts)
     × (length l.carry ≡ length l.initial.carry)
 

@@ -1,20 +1,7 @@
 -- `pouring::pour_more` meets its contract: bytes of the chunk move to the carry, which is walked again.
 -- Assumes nothing.
-use mathlib.Core.Path.{◌∙◌}
-use native.Mathlib.Omega.{arith}
 use Rattle.pouring.proofs.Pours.{tops}
 use Rattle.pouring.proofs.pour_more.Goals as goal
-
-pub top_up-n-requires : goal.top_up-n-requires
-top_up-n-requires c = (omega (arith, c.requires.1, c.requires.3), c.requires.2)
-
-pub pour_carry-requires : goal.pour_carry-requires
-pour_carry-requires c =
-    record {
-      lends = c.requires.0;
-      within = omega (arith, c.top_up-n.ensures.1.1.0, c.requires.3);
-      long = c.top_up-n.auto.carry ∙ c.requires.3;
-    }
 
 pub returns : goal.returns
 returns c =
