@@ -18,6 +18,7 @@ use Rattle.kinds.specs.declared.Pair.{Pair}
 use Rattle.kinds.specs.declared.Kind.{Kind}
 use Rattle.kinds.specs.declared.Kind.TheVariants.{Far, Custom, Unknown}
 use Rattle.kinds.specs.Kinds.{pairs, named, has_type, custom, beyond_table, kind_of}
+use Rattle.kinds.proofs.Laws.{named_cons}
 use Rattle.frames.specs.Frames.{header, rec_len, rec_typ, rec_sub, body, is_record}
 use Rattle.fields.specs.Tables.{far}
 use Rattle.bodies.specs.Bodies.{byte_of, read_body, fitting}
@@ -98,14 +99,15 @@ either : (t : Bool) (j k : Kind) → never j ≡ true → never k ≡ true → n
 either true j k a b = a
 either false j k a b = b
 
-none_begins : (ps : List Pair) (typ sub : ℕ) (k : Kind) → each (λ (p : Pair). never p.2) ps ≡ true
+none_begins : (ps : List Pair) (typ sub : ℕ) (k : Kind) → each (λ (p : Pair). never p.kind) ps ≡ true
     → never k ≡ true → never (named ps typ sub k) ≡ true
 unfolding named
 none_begins [] typ sub k e last = last
 none_begins (p ∷ ps) typ sub k e last =
-    either (eqb p.0 typ && eqb p.1 sub) p.2 (named ps typ sub k)
-    (both_left (never p.2) (each (λ (q : Pair). never q.2) ps) e)
-    (none_begins ps typ sub k (both_right (never p.2) (each (λ (q : Pair). never q.2) ps) e) last)
+    rw (named_cons p ps typ sub k)
+    (either (eqb p.typ typ && eqb p.sub sub) p.kind (named ps typ sub k)
+    (both_left (never p.kind) (each (λ (q : Pair). never q.kind) ps) e)
+    (none_begins ps typ sub k (both_right (never p.kind) (each (λ (q : Pair). never q.kind) ps) e) last))
 
 none_beyond : (typ sub : ℕ) → never (beyond_table typ sub) ≡ true
 unfolding beyond_table
@@ -115,8 +117,8 @@ none_beyond typ sub = either (custom typ sub) Custom Unknown refl refl
 kind_first : (typ sub : ℕ)
     → kind_of typ sub
     ≡ cond (eqb 0 typ && eqb 10 sub) Far (named (drop 1 pairs) typ sub (beyond_table typ sub))
-unfolding kind_of named
-kind_first typ sub = refl
+unfolding kind_of
+kind_first typ sub = named_cons _ (drop 1 pairs) typ sub (beyond_table typ sub)
 
 pub first_in_place : FirstInPlace
 first_in_place typ sub =

@@ -7,7 +7,9 @@
 --   kind_of        the kind of any pair
 --   known         whether a kind is not unknown: 6 where it is
 -- Assumes nothing.
-use Rattle.std.specs.Prelude.{ℕ, Bool, true, false, cond, ◌&&◌, ◌||◌, List, [], ◌∷◌, eqb, ltb}
+use Rattle.std.specs.Prelude.{ℕ, Bool, true, false, cond, ◌&&◌, ◌||◌, List, [], ◌∷◌, eqb, ltb, find}
+use Rattle.std.specs.List.{list_any}
+use Rattle.std.specs.Option.{option_map_or}
 use Rattle.kinds.specs.declared.Kind.{Kind}
 use Rattle.kinds.specs.declared.Kind.TheVariants.{Far, Atr, Mir, Mrr, Pcr, Hbr, Sbr}
 use Rattle.kinds.specs.declared.Kind.TheVariants.{Rdr, Sdr, Wir, Wrr, Pir, Prr, Remaining, Custom, Unknown}
@@ -15,49 +17,50 @@ use Rattle.kinds.specs.declared.Remaining.TheVariants.{Pmr, Pgr, Plr, Wcr, Tsr}
 use Rattle.kinds.specs.declared.Remaining.TheVariants.{Ptr, Mpr, Ftr, Bps, Eps, Gdr, Dtr}
 use Rattle.kinds.specs.declared.Pair.{Pair}
 
+abbrev pub pair : ℕ → ℕ → Kind → Pair
+pair typ sub kind = record { typ = typ; sub = sub; kind = kind }
+
 -- STDF V4 has twenty-five pairs: the table, in the document's order
 abbrev pub pairs : List Pair
 pairs =
-    (0, 10, Far) ∷
-    (0, 20, Atr) ∷
-    (1, 10, Mir) ∷
-    (1, 20, Mrr) ∷
-    (1, 30, Pcr) ∷
-    (1, 40, Hbr) ∷
-    (1, 50, Sbr) ∷
-    (1, 60, Remaining Pmr) ∷
-    (1, 62, Remaining Pgr) ∷
-    (1, 63, Remaining Plr) ∷
-    (1, 70, Rdr) ∷
-    (1, 80, Sdr) ∷
-    (2, 10, Wir) ∷
-    (2, 20, Wrr) ∷
-    (2, 30, Remaining Wcr) ∷
-    (5, 10, Pir) ∷
-    (5, 20, Prr) ∷
-    (10, 30, Remaining Tsr) ∷
-    (15, 10, Remaining Ptr) ∷
-    (15, 15, Remaining Mpr) ∷
-    (15, 20, Remaining Ftr) ∷
-    (20, 10, Remaining Bps) ∷
-    (20, 20, Remaining Eps) ∷
-    (50, 10, Remaining Gdr) ∷
-    (50, 30, Remaining Dtr) ∷
+    pair 0 10 Far ∷
+    pair 0 20 Atr ∷
+    pair 1 10 Mir ∷
+    pair 1 20 Mrr ∷
+    pair 1 30 Pcr ∷
+    pair 1 40 Hbr ∷
+    pair 1 50 Sbr ∷
+    pair 1 60 (Remaining Pmr) ∷
+    pair 1 62 (Remaining Pgr) ∷
+    pair 1 63 (Remaining Plr) ∷
+    pair 1 70 Rdr ∷
+    pair 1 80 Sdr ∷
+    pair 2 10 Wir ∷
+    pair 2 20 Wrr ∷
+    pair 2 30 (Remaining Wcr) ∷
+    pair 5 10 Pir ∷
+    pair 5 20 Prr ∷
+    pair 10 30 (Remaining Tsr) ∷
+    pair 15 10 (Remaining Ptr) ∷
+    pair 15 15 (Remaining Mpr) ∷
+    pair 15 20 (Remaining Ftr) ∷
+    pair 20 10 (Remaining Bps) ∷
+    pair 20 20 (Remaining Eps) ∷
+    pair 50 10 (Remaining Gdr) ∷
+    pair 50 30 (Remaining Dtr) ∷
     []
 
 -- what stands past the table's end
 abbrev pub no_pair : Pair
-no_pair = (0, 0, Far)
+no_pair = pair 0 0 Far
 
 -- the kind of the first entry that has the type and the subtype, or else the other kind
 unfoldable pub named : List Pair → ℕ → ℕ → Kind → Kind
-named [] typ sub other = other
-named (p ∷ ps) typ sub other = cond (eqb p.0 typ && eqb p.1 sub) p.2 (named ps typ sub other)
+named table typ sub other = option_map_or (λ p. p.kind) (find (λ p. eqb p.typ typ && eqb p.sub sub) table) other
 
 -- the types of the table: eight of them
 unfoldable pub has_type : List Pair → ℕ → Bool
-has_type [] typ = false
-has_type (p ∷ ps) typ = eqb p.0 typ || has_type ps typ
+has_type table typ = list_any (λ p. eqb p.typ typ) table
 
 -- custom: a type above 200, or a type of the table with a subtype above 200
 abbrev pub custom : ℕ → ℕ → Bool
@@ -72,19 +75,5 @@ kind_of typ sub = named pairs typ sub (beyond_table typ sub)
 
 -- 6: unknown kind
 abbrev pub known : Kind → Bool
-known Far = true
-known Atr = true
-known Mir = true
-known Mrr = true
-known Pcr = true
-known Hbr = true
-known Sbr = true
-known Rdr = true
-known Sdr = true
-known Wir = true
-known Wrr = true
-known Pir = true
-known Prr = true
-known (Remaining k) = true
-known Custom = true
 known Unknown = false
+known _ = true

@@ -13,7 +13,7 @@ listed false typ rest = typ ∷ rest
 
 abbrev pub types_of : List Pair → List ℕ
 types_of [] = []
-types_of (p ∷ ps) = listed (has_type ps p.0) p.0 (types_of ps)
+types_of (p ∷ ps) = listed (has_type ps p.typ) p.typ (types_of ps)
 
 -- Record frame and kinds: twenty-five pairs, of eight types
 abbrev pub PairsCounted : Type 0
@@ -21,8 +21,8 @@ PairsCounted = (length pairs ≡ 25) × (types_of pairs ≡ 0 ∷ 1 ∷ 2 ∷ 5 
 
 -- .. none of which is custom
 abbrev pub PairsNotCustom : Type 0
-PairsNotCustom = (i : ℕ) → i < 25 → custom (get_or pairs i no_pair).0 (get_or pairs i no_pair).1 ≡ false
+PairsNotCustom = (i : ℕ) → i < 25 → custom (get_or pairs i no_pair).typ (get_or pairs i no_pair).sub ≡ false
 
 -- Record frame and kinds: each of the twenty-five pairs names its own kind, and no earlier one hides it
 abbrev pub EachPairItsKind : Type 0
-EachPairItsKind = (i : ℕ) → i < 25 → kind_of (get_or pairs i no_pair).0 (get_or pairs i no_pair).1 ≡ (get_or pairs i no_pair).2
+EachPairItsKind = (i : ℕ) → i < 25 → kind_of (get_or pairs i no_pair).typ (get_or pairs i no_pair).sub ≡ (get_or pairs i no_pair).kind
