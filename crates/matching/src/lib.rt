@@ -8,15 +8,5 @@ ghost use Rattle.matching.specs.Matching.{same};
 pub fn same_bytes(one: &[u8], other: &[u8]) -> bool
     ensures { result ≡ same one.now other.now }
 {
-    if one.len() != other.len() {
-        return false;
-    }
-    let mut i: usize = 0;
-    while i < one.len() {
-        if one[i] != other[i] {
-            return false;
-        }
-        i += 1;
-    }
-    true
+    one == other
 }

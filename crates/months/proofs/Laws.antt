@@ -5,6 +5,7 @@ use mathlib.Core.Bool.{Bool, true, false, cond, ◌&&◌}
 use mathlib.Core.List.{[]}
 use Prim.Native.Nat.{ℕ, zero, suc, ◌+◌, ◌-◌, ◌/◌, ◌%◌, ◌≤◌, ◌<◌}
 use native.Mathlib.Nat.{zero-add, suc-add}
+use native.Mathlib.Numerals.{add-one}
 use native.Mathlib.Omega.{arith}
 use borrow.Author.Tests.{leb-true, ltb-true, ltb-false}
 use lib.Dec.{eqb, leb, ltb}
@@ -54,6 +55,14 @@ first_start = refl
 pub first_next : (month : ℕ) → first_day (suc month) ≡ first_day month + length_of month
 unfolding first_day
 first_next month = refl
+
+pub first_more : (month : ℕ) → first_day (month + 1) ≡ first_day month + length_of month
+first_more month = rw (add-one month, first_next month)
+
+pub length_most : (month : ℕ) → length_of month ≤ 31
+length_most month = (length_between month).1
+
+pub ruleset first_days = (first_start, first_more, length_most)
 
 rises : (n month : ℕ) → first_day month ≤ first_day (n + month)
 rises zero month = rw zero-add (omega arith)

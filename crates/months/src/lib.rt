@@ -15,45 +15,28 @@ const LENGTHS: [[u8; 12]; 2] = [
 fn leap_row(year: u32) -> usize
     ensures { (result ≡ leap_row year) × (result < 2) }
 {
-    if year % 400 == 0 {
-        return 1;
-    }
-    if year % 100 == 0 {
-        return 0;
-    }
-    if year % 4 == 0 {
-        return 1;
-    }
-    0
-}
-
-fn wide(x: u8) -> u32
-    ensures { result ≡ x }
-{
-    x as u32
+    usize::from(year % 400 == 0 || (year % 100 != 0 && year % 4 == 0))
 }
 
 // How many days a month has.
+#[tactic(auto, unfolding(crate::specs::Months::length_of))]
 pub fn month_length(month: u32) -> u32
     requires { month ≤ 100_000 }
     ensures { result ≡ length_of month }
 {
-    let rows = LENGTHS;
-    let row = leap_row(1970 + month / 12);
-    let of_year = (month % 12) as usize;
-    wide(rows[row][of_year])
+    let row = LENGTHS[leap_row(1970 + month / 12)];
+    u32::from(row[(month % 12) as usize])
 }
 
 // The day on which a month begins.
+#[tactic(auto, using(crate::proofs::Laws::first_days))]
 pub fn first_day(month: u32) -> u32
     requires { month ≤ last_month }
     ensures { result ≡ first_day month }
 {
-    let mut i: u32 = 0;
     let mut day: u32 = 0;
-    while i < month {
+    for i in 0..month {
         day += month_length(i);
-        i += 1;
     }
     day
 }
@@ -65,6 +48,7 @@ pub fn month_of_day(day: u32) -> u32
 {
     let mut month: u32 = 0;
     let mut left = day;
+    // No `for`: where the walk ends is what it looks for.
     loop {
         let n = month_length(month);
         if left < n {
