@@ -79,13 +79,7 @@ pub fn close_slot(house: House, slot: u32) -> Answered
     if !s.taken {
         return answer_with(Answer::SlotClosed, h);
     }
-    let mut keys = h.keys;
-    let mut counts = h.counts;
-    let used = rows::drop_slot(&mut keys, &mut counts, h.used, i);
-    h.keys = keys;
-    h.counts = counts;
-    h.used = used;
-    let none = Slot::closed();
-    h.slots[i] = none;
+    h.used = rows::drop_slot(&mut h.keys, &mut h.counts, h.used, i);
+    h.slots[i] = Slot::closed();
     answer_with(Answer::Done, h)
 }

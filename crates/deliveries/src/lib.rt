@@ -11,32 +11,29 @@ ghost use Rattle.house.specs.Calls.{deliver, settled_to, with_outcome, Settleabl
 
 use answers::Answer;
 use calls::answer_with;
-use house::{Answered, House, Room, Slot};
+use house::{Answered, House, Slot};
 use judging::judge_lent;
 use lent::settle_lent;
 use session::{Session, Verdict};
 use settling::settle;
-use soundness::{soundness_lent, unfilled_of};
+use soundness::{room_of, soundness_lent};
 
 // Delivers one record to a slot.
 pub fn deliver(house: House, slot: u32, rec: &[u8]) -> Answered
     ensures { result ≡ deliver house slot rec.now }
 {
-    let h = house;
-    let slots = h.slots;
-    let Some(owed) = soundness_lent(slots, &h.keys, &h.counts, h.used) else {
-        return answer_with(Answer::NotSound, h);
+    let Some(owed) = soundness_lent(house.slots, &house.keys, &house.counts, house.used) else {
+        return answer_with(Answer::NotSound, house);
     };
     let i = slot as usize;
     if House::SLOTS <= i {
-        return answer_with(Answer::NoSuchSlot, h);
+        return answer_with(Answer::NoSuchSlot, house);
     }
-    let s = h.slots[i];
+    let s = house.slots[i];
     if !s.taken {
-        return answer_with(Answer::SlotClosed, h);
+        return answer_with(Answer::SlotClosed, house);
     }
-    let verdict = judge_slot(s, rec);
-    settle_to(h, owed, i, s, verdict)
+    settle_to(house, owed, i, s, judge_slot(s, rec))
 }
 
 // What a record does to the session of an open slot: it is judged here, once, and no house is touched.
@@ -45,8 +42,7 @@ fn judge_slot(s: Slot, rec: &[u8]) -> Verdict
     ensures { (result ≡ verdict_on s.session rec.now) × Settles s.session.standing result }
 {
     let session = s.session;
-    let parts = session.parts;
-    judge_lent(session.standing, &parts, rec)
+    judge_lent(session.standing, &session.parts, rec)
 }
 
 // Settles a verdict on a record to an open slot of a sound house, of which the test has told how many rows it owes. One
@@ -59,12 +55,9 @@ fn settle_to(house: House, owed: u32, i: usize, s: Slot, verdict: Verdict) -> An
         Verdict::Refused(answer) => answer_with(answer, house),
         Verdict::Taken(change) => {
             let mut h = house;
-            let next = settle(s.session, change);
             h.slots[i] = Slot {
-                taken: s.taken,
-                floor: s.floor,
-                session: next,
-                held: s.held,
+                session: settle(s.session, change),
+                ..s
             };
             answer_with(Answer::Done, h)
         }
@@ -72,50 +65,36 @@ fn settle_to(house: House, owed: u32, i: usize, s: Slot, verdict: Verdict) -> An
     }
 }
 
-// .. and one that asks for a row: the rows and the parts are lent, and the house is laid anew from them, so that each
-// array is copied once. One call has nothing to guess by.
+// .. and one that asks for a row: the rows and the parts are lent, so that each array is copied once. One call has
+// nothing to guess by.
 fn settle_rows(house: House, owed: u32, i: usize, s: Slot, verdict: Verdict) -> Answered
     requires { Settleable house owed i s verdict }
     ensures { result ≡ with_outcome house i (settled_to house i verdict) }
 {
-    let used = house.used;
-    let mut keys = house.keys;
-    let mut counts = house.counts;
-    let own = unfilled_of(i, s, &keys, used);
-    let room = Room {
-        slot: i,
-        floor: s.floor,
-        others: owed - own,
-    };
-    let session = s.session;
-    let mut parts = session.parts;
-    let st = session.standing;
-    let mut guesses: [u16; 1] = [0; 1];
+    let room = room_of(&house, owed, i);
+    let Session {
+        standing,
+        mut parts,
+    } = s.session;
+    let mut guesses = [0u16; 1];
+    let mut laid = house;
     let d = settle_lent(
-        &mut keys,
-        &mut counts,
-        used,
+        &mut laid.keys,
+        &mut laid.counts,
+        laid.used,
         &mut guesses,
         room,
-        st,
+        standing,
         &mut parts,
         verdict,
     );
-    let answer = d.answer;
-    let standing = d.standing;
-    let next = Session { standing, parts };
-    let mut slots = house.slots;
-    slots[i] = Slot {
-        taken: s.taken,
-        floor: s.floor,
-        session: next,
-        held: s.held,
+    laid.used = d.used;
+    laid.slots[i] = Slot {
+        session: Session {
+            standing: d.standing,
+            parts,
+        },
+        ..s
     };
-    let laid = House {
-        keys,
-        counts,
-        used: d.used,
-        slots,
-    };
-    answer_with(answer, laid)
+    answer_with(d.answer, laid)
 }

@@ -96,11 +96,10 @@ impl Slot {
     pub fn closed() -> Slot
         ensures { result ≡ closed_slot }
     {
-        let session = Session::begin();
         Slot {
             taken: false,
             floor: 0,
-            session,
+            session: Session::begin(),
             held: 0,
         }
     }
@@ -108,12 +107,10 @@ impl Slot {
     pub fn opened(floor: u32) -> Slot
         ensures { result ≡ opened_slot floor }
     {
-        let session = Session::begin();
         Slot {
             taken: true,
             floor,
-            session,
-            held: 0,
+            ..Slot::closed()
         }
     }
 }
@@ -130,13 +127,11 @@ impl House {
     pub fn fresh() -> House
         ensures { result ≡ fresh }
     {
-        let slot = Slot::closed();
-        let slots = [slot; House::SLOTS];
         House {
             keys: [0; House::ROWS],
             counts: [0; House::ROWS],
             used: 0,
-            slots,
+            slots: [Slot::closed(); House::SLOTS],
         }
     }
 }

@@ -11,7 +11,7 @@ ghost use Rattle.house.specs.House.{taken_of, slot_sound, slots_sound, promised_
 ghost use Rattle.house.specs.House.{house_of, Lent};
 
 use house::{House, Slot};
-pub use rooms::unfilled_of;
+pub use rooms::{room_of, unfilled_of};
 
 // An open slot's floor, its held bytes, its session and counts; a closed slot holds nothing.
 #[tactic(auto, unfolding(house::specs::House::slot_sound))]

@@ -25,8 +25,8 @@ returns-then-not-s c =
     ∙ sym (close_shut _ _ fine
     c.if-i-ge-SLOTS.false (not-true _ c.if-not-s.true))
 
-pub drop_slot-used-requires : goal.drop_slot-used-requires
-drop_slot-used-requires c =
+pub drop_slot-requires : goal.drop_slot-requires
+drop_slot-requires c =
     let fine = sym c.is_sound.ensures ∙ c.if-not-is_sound.false in (
       omega (arith, c.if-i-ge-SLOTS.false),
       lent_kept _ _ _ (told_lent c.args.house fine (search rules)
@@ -39,4 +39,4 @@ returns c =
     c.answer_with-2.ensures
     ∙ sym
     (close_done _ _ fine c.if-i-ge-SLOTS.false (not-false _ c.if-not-s.false) _ _ _ _
-    c.drop_slot-used.ensures c.closed-none.ensures)
+    c.drop_slot.ensures c.closed.ensures)

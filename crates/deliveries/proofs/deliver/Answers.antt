@@ -23,8 +23,8 @@ returns-then-not-s c =
     c.answer_with-then-not-s.ensures
     ∙ sym (deliver_shut _ _ _ fine c.if-i-ge-SLOTS.false (not-true _ c.if-not-s.true))
 
-pub judge_slot-verdict-requires : goal.judge_slot-verdict-requires
-judge_slot-verdict-requires c =
+pub judge_slot-requires : goal.judge_slot-requires
+judge_slot-requires c =
     let fine = told_sound _ _ c.soundness_lent.ensures.0 _ c.in-Some.is in
     open_session c.args.house c.args.slot fine
     c.soundness_lent.ensures.1 c.if-i-ge-SLOTS.false (not-false _ c.if-not-s.false)
@@ -39,7 +39,7 @@ settle_to-requires c =
       taken = not-false _ c.if-not-s.false;
       slots = c.soundness_lent.ensures.1;
       owes = told_promised _ _ c.soundness_lent.ensures.0 _ c.in-Some.is;
-      fits = c.judge_slot-verdict.ensures.1;
+      fits = c.judge_slot.ensures.1;
     }
 
 pub returns : goal.returns
@@ -47,5 +47,5 @@ returns c =
     let fine = told_sound _ _ c.soundness_lent.ensures.0 _ c.in-Some.is in
     let a = c.args in
     c.settle_to.ensures
-    ∙ laid_judged a.house a.slot a.rec.now c.judge_slot-verdict.ensures.0
+    ∙ laid_judged a.house a.slot a.rec.now c.judge_slot.ensures.0
     ∙ sym (deliver_judged _ _ _ fine c.if-i-ge-SLOTS.false (not-false _ c.if-not-s.false))

@@ -5,8 +5,8 @@ use Rattle.settling.proofs.Laws.{settles_taken}
 use Rattle.house.proofs.Calling.{laid_refused, laid_taken}
 use Rattle.deliveries.proofs.settle_to.Goals as goal
 
-pub settle-next-requires : goal.settle-next-requires
-settle-next-requires c = settles_taken c.args.s.session.standing c.requires.fits c.in-Taken.is
+pub settle-requires : goal.settle-requires
+settle-requires c = settles_taken c.args.s.session.standing c.requires.fits c.in-Taken.is
 
 pub returns-in-Refused : goal.returns-in-Refused
 returns-in-Refused c =
@@ -17,4 +17,4 @@ pub returns-in-Taken : goal.returns-in-Taken
 returns-in-Taken c =
     c.answer_with-in-Taken.ensures
     ∙ laid_taken c.args.house c.args.i c.requires.is
-    c.in-Taken.is _ c.settle-next.ensures
+    c.in-Taken.is _ c.settle.ensures

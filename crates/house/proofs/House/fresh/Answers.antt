@@ -17,4 +17,4 @@ returns c =
       used = 0;
       slots = replicate slot_count s;
     })
-    c.closed-slot.ensures
+    c.closed.ensures

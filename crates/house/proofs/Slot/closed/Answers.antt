@@ -6,4 +6,4 @@ use Rattle.session.specs.declared.Session.{Session}
 use Rattle.house.proofs.Slot.closed.Goals as goal
 
 pub returns : goal.returns
-returns c = ap (λ (s : Session). record { taken = false; floor = 0; session = s; held = 0 }) c.begin-session.ensures
+returns c = ap (λ (s : Session). record { taken = false; floor = 0; session = s; held = 0 }) c.begin.ensures
