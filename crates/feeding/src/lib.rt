@@ -8,10 +8,10 @@ ghost use Rattle.house.specs.Feeding.{held_in, fed_with, fed_to, feed, end_feed}
 ghost use Rattle.feeding.specs.Door.{Cells, Feedable, Unfed};
 
 use answers::Answer;
-use house::{Fed, House, Room, Slot};
+use house::{Fed, House, Slot};
 use pouring::{Pour, answer_of, pour_all};
 use session::Session;
-use soundness::{is_sound, soundness_lent, unfilled_of};
+use soundness::{is_sound, room_of, soundness_lent};
 
 fn fed(answer: Answer, taken: usize, house: House) -> Fed
     ensures { result ≡ record { answer = answer; taken = taken; house = house } }
@@ -34,43 +34,34 @@ fn cells_of(s: Slot) -> bool
 fn all_cells(slots: [Slot; House::SLOTS]) -> bool
     ensures { Cells slots }
 {
-    let mut i: usize = 0;
-    while i < House::SLOTS {
-        let s = slots[i];
+    for s in slots {
         cells_of(s);
-        i += 1;
     }
     true
 }
 
 // The records of a chunk to an open slot of a sound house, of which the test has told how many rows it owes. The rows
-// and the parts are lent, and the house is laid anew from them: each array is copied once.
+// and the parts are lent: each array is copied once.
 fn feed_open(house: House, owed: u32, i: usize, s: Slot, carry: &mut [u8], chunk: &[u8]) -> Fed
     requires { Feedable house owed i s carry.old }
     ensures { fed_with result (held_in result.house i carry.new)
         ≡ fed_to house i (held_in house i carry.old) chunk.now }
 {
-    let used = house.used;
-    let mut keys = house.keys;
-    let mut counts = house.counts;
-    let own = unfilled_of(i, s, &keys, used);
-    let room = Room {
-        slot: i,
-        floor: s.floor,
-        others: owed - own,
-    };
-    let session = s.session;
-    let mut parts = session.parts;
-    let standing = session.standing;
-    let mut guesses: [u16; 4096] = [0; 4096];
+    let room = room_of(&house, owed, i);
+    let Session {
+        standing,
+        mut parts,
+    } = s.session;
+    let mut guesses = [0u16; 4096];
+    let mut laid = house;
     let p = pour_all(
-        &mut keys,
-        &mut counts,
+        &mut laid.keys,
+        &mut laid.counts,
         &mut guesses,
         &mut parts,
         room,
         Pour {
-            used,
+            used: house.used,
             standing,
             fate: None,
             held: s.held,
@@ -79,24 +70,16 @@ fn feed_open(house: House, owed: u32, i: usize, s: Slot, carry: &mut [u8], chunk
         carry,
         chunk,
     );
-    let standing = p.standing;
-    let fate = p.fate;
-    let answer = answer_of(fate);
-    let next = Session { standing, parts };
-    let mut slots = house.slots;
-    slots[i] = Slot {
-        taken: s.taken,
-        floor: s.floor,
-        session: next,
+    laid.used = p.used;
+    laid.slots[i] = Slot {
+        session: Session {
+            standing: p.standing,
+            parts,
+        },
         held: p.held,
+        ..s
     };
-    let laid = House {
-        keys,
-        counts,
-        used: p.used,
-        slots,
-    };
-    fed(answer, p.at, laid)
+    fed(answer_of(p.fate), p.at, laid)
 }
 
 // Feeds a chunk of any length to a slot, over the carry that its session lends.
@@ -105,24 +88,22 @@ pub fn feed(house: House, slot: u32, carry: &mut [u8], chunk: &[u8]) -> Fed
         ≡ feed house slot carry.old chunk.now }
     ensures kept { Unfed house slot carry.old carry.new }
 {
-    let h = house;
-    let slots = h.slots;
-    let Some(owed) = soundness_lent(slots, &h.keys, &h.counts, h.used) else {
-        return fed(Answer::NotSound, 0, h);
+    let Some(owed) = soundness_lent(house.slots, &house.keys, &house.counts, house.used) else {
+        return fed(Answer::NotSound, 0, house);
     };
     let i = slot as usize;
     if House::SLOTS <= i {
-        return fed(Answer::NoSuchSlot, 0, h);
+        return fed(Answer::NoSuchSlot, 0, house);
     }
-    let s = h.slots[i];
+    let s = house.slots[i];
     if !s.taken {
-        return fed(Answer::SlotClosed, 0, h);
+        return fed(Answer::SlotClosed, 0, house);
     }
     if carry.len() != House::CARRY {
-        return fed(Answer::OutputTooShort, 0, h);
+        return fed(Answer::OutputTooShort, 0, house);
     }
-    all_cells(slots);
-    feed_open(h, owed, i, s, carry, chunk)
+    all_cells(house.slots);
+    feed_open(house, owed, i, s, carry, chunk)
 }
 
 // Ends feeding: no byte may be held. It changes nothing.

@@ -1,9 +1,7 @@
 -- `feeding::feed` meets its contract: each return is one case of its definition.
 -- Assumes nothing.
-use mathlib.Core.Path.{◌≡◌, refl, ◌∙◌}
-use mathlib.Core.Bool.{true}
+use mathlib.Core.Path.{refl, ◌∙◌}
 use borrow.Author.Tests.{not-true, not-false}
-use Rattle.house.specs.House.{sound, promised}
 use Rattle.house.proofs.Laws.{told_sound, told_unsound, told_promised}
 use Rattle.feeding.proofs.Door.{unfed_told, feed_unsound, feed_no_slot, feed_shut, feed_other, feed_done_lem, feed_touched}
 use Rattle.feeding.proofs.feed.Goals as goal
