@@ -3,14 +3,10 @@
 -- Assumes nothing.
 use mathlib.Core.Path.{◌≡◌}
 use mathlib.Core.Bool.{◌&&◌}
-use Prim.Native.Nat.{◌-◌, ◌≤◌}
 use lib.ListN.{take}
 use Rattle.rising.specs.Rising.{rising}
 use Rattle.rising.proofs.Steps.{rising_rest}
 use Rattle.rising.proofs.is_rising.Given as goal
 
 abbrev pub invariant-loop-i : goal.invariant-loop-i
-invariant-loop-i l = (1 ≤ l.i) × (rising (take l.used l.s) ≡ (l.rises && rising_rest l.s l.used l.i))
-
-abbrev pub decreases-loop-i : goal.decreases-loop-i
-decreases-loop-i l = l.used - l.i
+invariant-loop-i l = rising (take l.used l.s) ≡ (l.rises && rising_rest l.s l.used l.i)
