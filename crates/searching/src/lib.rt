@@ -15,10 +15,8 @@ pub fn rises_below(s: &[u64], used: usize) -> bool
     ensures { result ≡ rising (take used s.now) }
 {
     let mut falls: u64 = 0;
-    let mut at: usize = 1;
-    while at < used {
-        falls = falls | (s[at - 1] + HALF - s[at]);
-        at += 1;
+    for at in 1..used {
+        falls |= s[at - 1] + HALF - s[at];
     }
     falls / HALF == 0
 }
@@ -37,6 +35,7 @@ pub fn rank_among(s: &[u64], used: usize, most: usize, key: u64) -> usize
     let mut n = used;
     let mut width = most;
     while width > 1 {
+        // Each test on its own, and no loop over the three: so their elements are read at once.
         let left = (n + 3) / 4;
         let first = at + n / 4;
         let middle = at + n / 2;
@@ -61,10 +60,8 @@ pub fn rank_guessed(s: &[u64], used: usize, most: usize, guess: usize, key: u64)
     requires { (used ≤ most) × (most ≤ 65536) × (used ≤ length s.now) × (rising (take used s.now) ≡ true) }
     ensures { result ≡ rank key (take used s.now) }
 {
-    if guess < used {
-        if s[guess] == key {
-            return guess;
-        }
+    if guess < used && s[guess] == key {
+        return guess;
     }
     rank_among(s, used, most, key)
 }

@@ -11,7 +11,7 @@ use Rattle.rising.proofs.Steps.{half, rest_first, rest_none, low_at, gaps_next}
 use Rattle.searching.proofs.rises_below.Goals as goal
 
 pub loop-at-init : goal.loop-at-init
-loop-at-init c = (omega arith, rest_first c.args.s.now c.args.used)
+loop-at-init c = rest_first c.args.s.now c.args.used
 
 pub overflow_add-falls : goal.overflow_add-falls
 overflow_add-falls c =
@@ -30,15 +30,12 @@ overflow_sub-falls-in-loop-at c =
 
 pub loop-at-preserved : goal.loop-at-preserved
 loop-at-preserved c =
-    let args = c.args in (
-      omega arith,
-      c.loop-at.invariant.1
-          ∙ gaps_next args.s.now args.used c.loop-at.at c.requires.0 c.requires.1 c.loop-at.falls
-          c.loop-at.invariant.0 (omega arith),
-    )
+    let args = c.args in
+    c.loop-at.invariant
+    ∙ gaps_next args.s.now args.used c.loop-at.at c.requires.0 c.requires.1 c.loop-at.falls (omega arith) (omega arith)
 
 pub returns : goal.returns
 returns c =
     let none =
     rest_none c.args.s.now c.args.used c.loop-at.at c.requires.0 c.loop-at-test.false in
-    sym (c.loop-at.invariant.1 ∙ rw none (and-true (eqb (c.loop-at.falls / half) 0)))
+    sym (c.loop-at.invariant ∙ rw none (and-true (eqb (c.loop-at.falls / half) 0)))

@@ -3,7 +3,7 @@
 -- Assumes nothing.
 use mathlib.Core.Path.{◌≡◌}
 use mathlib.Core.Bool.{◌&&◌}
-use Prim.Native.Nat.{◌-◌, ◌/◌, ◌≤◌}
+use Prim.Native.Nat.{◌/◌}
 use lib.Dec.{eqb}
 use lib.ListN.{take}
 use Rattle.rising.specs.Rising.{rising}
@@ -11,7 +11,4 @@ use Rattle.rising.proofs.Steps.{rising_rest, half}
 use Rattle.searching.proofs.rises_below.Given as goal
 
 abbrev pub invariant-loop-at : goal.invariant-loop-at
-invariant-loop-at l = (1 ≤ l.at) × (rising (take l.used l.s) ≡ (eqb (l.falls / half) 0 && rising_rest l.s l.used l.at))
-
-abbrev pub decreases-loop-at : goal.decreases-loop-at
-decreases-loop-at l = l.used - l.at
+invariant-loop-at l = rising (take l.used l.s) ≡ (eqb (l.falls / half) 0 && rising_rest l.s l.used l.at)
