@@ -10,8 +10,8 @@ use native.Mathlib.Numerals.{add-one}
 use native.Mathlib.Omega.{arith}
 use lib.ListN.{length, take, drop, length-map, length-drop}
 use lib.Seq.{length-take-le, take-append-le, take-take, drop_at}
+use Rattle.std.proofs.lemmas.List.{take-map}
 use Rattle.answers.specs.declared.Answer.{Answer}
-use Rattle.answers.specs.declared.Answer.TheVariants as answer
 use Rattle.numbers.specs.declared.Order.{Order}
 use Rattle.numbers.proofs.Laws.{bytes_drop}
 use Rattle.kinds.specs.declared.Kind.{Kind}
@@ -40,7 +40,7 @@ use Rattle.session.specs.Verdicts.{stands, ByItself}
 use Rattle.session.proofs.Laws.{kept_right_lem, sound_right, sound_parts_told, sound_wafers_told, sound_heads_rise}
 use Rattle.session.proofs.Laws.{sound_wafers_rise, sound_stands_told, stands_from, stands_before, start_before}
 use Rattle.session.proofs.Laws.{past_start}
-use Rattle.session.proofs.Wafers.{heads_rise_lem, map_take, map_inserted, map_removed}
+use Rattle.session.proofs.Wafers.{heads_rise_lem, map_inserted, map_removed}
 use Rattle.session.proofs.Cells.{insert_before, remove_before, insert_behind, remove_behind}
 use Rattle.settling.specs.Settling.{changed, after, counted_parts, Settles}
 use Rattle.first_record.specs.First.{in_order, judge_first, order_in}
@@ -51,7 +51,7 @@ use Rattle.kind_effects.proofs.Cases.{quiet, said_cases}
 use Rattle.later_records.specs.Later.{at, judge_later}
 use Rattle.later_records.specs.Results.{result_in, result_read, result_of}
 use Rattle.later_records.proofs.Checks.{later_cases, acts, mrr_at_end, in_body, quiet_none}
-use Rattle.judging.specs.Judge.{judge, verdict_on, judged}
+use Rattle.judging.specs.Judge.{judge}
 use Rattle.judging.specs.Laws.{JudgedFirst, JudgedLater, JudgedSettles, JudgedSound, JudgedCounts, JudgedFew}
 use Rattle.judging.specs.Laws.{JudgedLong, KeyRight, JudgedKey, Begins, Tells, JudgedBegins, JudgedTells}
 use Rattle.judging.specs.Laws.{JudgedRefusal}
@@ -336,13 +336,13 @@ module _ (s : Session) (long : length s.parts ≡ cell_count) (e : sound s ≡ t
   by_heads : (n : ℕ) (cells hs : List ℕ) → heads_in n cells ≡ hs → n ≤ most_wafers → rising hs ≡ true
       → all_below 256 hs ≡ true → wafers_right n cells ≡ true
   by_heads n cells hs is few rises below =
-      let same = map_take wafer_head n (drop most_open cells) ∙ is in
+      let same = take-map wafer_head n (drop most_open cells) ∙ is in
       kept_right_lem most_wafers 256 n (head_cells cells)
       (record { few = few; rises = rw same rises; below = rw same below })
 
   heads_below : all_below 256 heads ≡ true
   heads_below =
-      rw (← map_take wafer_head st.wafers (drop most_open s.parts)) (sound_wafers_told s e).below
+      rw (← take-map wafer_head st.wafers (drop most_open s.parts)) (sound_wafers_told s e).below
 
   wafer_opened_right : (head group : ℕ) → head < 256 → group < 256 → held head heads ≡ false → st.wafers < most_wafers
       → wafers_right (st.wafers + 1) (cells_opened head (wafer_number head group)) ≡ true
@@ -468,15 +468,3 @@ judged_refusal s rec a e =
     (λ k q r named to fits.
     said_cases (at s.standing q) s.parts own (λ b by. by) r (λ quieted. tt) (λ p is. tt)
     (λ p is new few. tt) (λ p is there few. tt) (λ is done. tt) (λ w is new few. tt) (λ w is there. tt)))
-
--- ---- any session
-
-module _ (s : Session) (rec : List ℕ) where
-  pub judged_unsound : sound s ≡ false → judged s rec ≡ record { verdict = Refused answer.NotSound; session = s }
-  unfolding judged
-  judged_unsound e = rw e
-
-  module _ (e : sound s ≡ true) {v : Verdict} {next : Session} where
-    pub judged_settled : v ≡ verdict_on s rec → next ≡ after s v → record { verdict = v; session = next } ≡ judged s rec
-    unfolding judged
-    judged_settled is then = rw (e, then, is)

@@ -25,8 +25,7 @@ pub fn judge_lent(st: Standing, parts: &[u64], rec: &[u8]) -> Verdict
     requires { LentParts st parts.now }
     ensures { result ≡ judge st parts.now rec.now }
 {
-    let place = st.place;
-    if is_start(place) {
+    if is_start(st.place) {
         judge_first(st, rec)
     } else {
         judge_later(st, parts, rec)
@@ -37,26 +36,13 @@ pub fn judge_lent(st: Standing, parts: &[u64], rec: &[u8]) -> Verdict
 pub fn judge_record(session: Session, rec: &[u8]) -> Judged
     ensures { result ≡ judged session rec.now }
 {
-    let s = session;
-    if is_sound(s) {
-        let st = s.standing;
-        let verdict = judge_cells(st, &s.parts, rec);
-        let next = settle_verdict(s, verdict);
-        return Judged {
-            verdict,
-            session: next,
-        };
-    }
+    let verdict = if is_sound(session) {
+        judge_lent(session.standing, &session.parts, rec)
+    } else {
+        Verdict::Refused(Answer::NotSound)
+    };
     Judged {
-        verdict: Verdict::Refused(Answer::NotSound),
-        session: s,
+        verdict,
+        session: settle_verdict(session, verdict),
     }
-}
-
-// The same as judge_lent, of the cells that a session holds.
-fn judge_cells(st: Standing, parts: &[u64; 40], rec: &[u8]) -> Verdict
-    requires { LentParts st parts.now }
-    ensures { result ≡ judge st parts.now rec.now }
-{
-    judge_lent(st, parts, rec)
 }

@@ -3,29 +3,15 @@
 
 ghost use Rattle.std.specs.Prelude.{◌≡◌};
 ghost use Rattle.session.specs.Session.{LentParts};
-ghost use Rattle.later_records.specs.Later.{at, judge_later};
+ghost use Rattle.later_records.specs.Later.{judge_later};
 
 use answers::Answer;
 use bodies::read_body;
 use frames::is_record;
 use kind_effects::judge_said;
-use kinds::{Kind, is_known, kind_of};
-use order::{Place, next_place};
+use kinds::{is_known, kind_of};
+use order::next_place;
 use session::{Standing, Verdict};
-
-fn placed(st: Standing, place: Place) -> Standing
-    ensures { result ≡ at st place }
-{
-    let order = st.order;
-    Standing {
-        place,
-        order,
-        opened: st.opened,
-        pcr: st.pcr,
-        results: st.results,
-        wafers: st.wafers,
-    }
-}
 
 // What a later record does to a session whose cells are lent: nothing is copied, and nothing is tested that the caller
 // knows. In the body, a record whose body is not read looks at none of them.
@@ -33,22 +19,18 @@ pub fn judge_later(st: Standing, parts: &[u64], rec: &[u8]) -> Verdict
     requires { LentParts st parts.now }
     ensures { result ≡ judge_later st parts.now rec.now }
 {
-    let order = st.order;
-    if !is_record(order, rec) {
+    if !is_record(st.order, rec) {
         return Verdict::Refused(Answer::NotOneRecord);
     }
     let kind = kind_of(rec[2], rec[3]);
     if !is_known(kind) {
         return Verdict::Refused(Answer::UnknownKind);
     }
-    let place = st.place;
-    let step = next_place(place, kind);
-    let Some(next) = step else {
+    let Some(place) = next_place(st.place, kind) else {
         return Verdict::Refused(Answer::OutOfPlace);
     };
-    let reading = read_body(order, kind, &rec[4..]);
-    let Some(said) = reading else {
+    let Some(said) = read_body(st.order, kind, &rec[4..]) else {
         return Verdict::Refused(Answer::BodyMisfit);
     };
-    judge_said(placed(st, next), parts, said)
+    judge_said(Standing { place, ..st }, parts, said)
 }

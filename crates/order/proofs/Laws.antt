@@ -9,7 +9,7 @@ use Rattle.kinds.specs.declared.Kind.TheVariants.{Far, Atr, Mir, Mrr, Pcr, Hbr, 
 use Rattle.kinds.specs.declared.Kind.TheVariants.{Remaining, Custom, Unknown}
 use Rattle.order.specs.declared.Place.{Place}
 use Rattle.order.specs.declared.Place.TheVariants.{Start, Header, Lot, Setup, Body, Ended}
-use Rattle.order.specs.Order.{by_kind, goes, by_place}
+use Rattle.order.specs.Order.{by_kind, goes}
 use Rattle.order.specs.Spelled.{word_of}
 use Rattle.order.specs.Laws.{before, ended, opening, BeforeByOpening, EndedByMrr, NeverBack, NeverStart}
 use Rattle.order.specs.Laws.{ByColumn}

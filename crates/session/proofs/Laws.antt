@@ -5,10 +5,11 @@ use mathlib.Core.Bool.{true, false, false≢true}
 use mathlib.Core.List.{List, [], ◌∷◌}
 use Prim.Native.Nat.{ℕ, suc, ◌-◌, ◌≤◌, ◌<◌}
 use native.Mathlib.Omega.{arith}
-use borrow.Author.Tests.{le-leb, lt-leb, leb-true, eq-eqb, ne_eqb}
-use lib.Dec.{eqb, leb, ltb}
+use borrow.Author.Tests.{le-leb, leb-true, eq-eqb}
+use lib.Dec.{leb, ltb}
 use lib.ListN.{length, get_or, take, drop}
 use lib.Seq.{get_or-take, length-take-le}
+use Rattle.std.proofs.lemmas.List.{take-map}
 use Rattle.prelude.proofs.All.{all_at}
 use Rattle.order.specs.declared.Place.{Place}
 use Rattle.order.specs.declared.Place.TheVariants.{Start, Header, Lot, Setup, Body, Ended}
@@ -20,76 +21,25 @@ use Rattle.session.specs.declared.Standing.{Standing}
 use Rattle.session.specs.Session.{most_open, most_wafers, past_parts, wafer_head, heads_in, wafers_of, is_start}
 use Rattle.session.specs.Session.{nothing_yet, may_end, stands_right, kept_right, parts_right, head_cells, wafers_right}
 use Rattle.session.specs.Session.{conditions, sound}
-use Rattle.session.proofs.Wafers.{map_take, heads_rise_lem}
+use Rattle.session.proofs.Wafers.{heads_rise_lem}
 use Rattle.session.specs.Laws.{BegunSound, SoundLent, SmallestHeld, SmallestLeast}
 
--- ---- a sound session
+-- ---- a list in the first of some cells
 
-module _ (most bound used : ℕ) (cells : List ℕ) where
-  pub kept_many : most < used → kept_right most bound used cells ≡ false
-  unfolding kept_right
-  kept_many h = rw (lt-leb used most h)
-
-  module _ (few : used ≤ most) where
-    pub kept_fall : rising (take used cells) ≡ false → kept_right most bound used cells ≡ false
-    unfolding kept_right
-    kept_fall e = rw (le-leb used most few, e)
-
-    pub kept_none : used ≡ 0 → kept_right most bound used cells ≡ true
-    unfolding kept_right all_below rising rising_from
-    kept_none e = rw (le-leb used most few, e)
-
-    pub kept_last : rising (take used cells) ≡ true → (used ≡ 0 → ⊥) → most ≤ length cells
-        → kept_right most bound used cells ≡ ltb (get_or cells (used - 1) 0) bound
-    unfolding kept_right
-    kept_last rises some long =
-        let taken : length (take used cells) ≡ used = length-take-le used cells (omega arith) in
-        let last : length (take used cells) ≡ suc (used - 1) = omega arith in
-        rw (
-          le-leb used most few,
-          rises,
-          below_last bound (take used cells) (used - 1) rises last,
-          get_or-take used cells (used - 1) 0 (omega arith),
-        )
-
-module _ (st : Standing) where
-  pub yet_part : (st.opened ≡ 0 → ⊥) → nothing_yet st ≡ false
-  yet_part e = rw (ne_eqb st.opened 0 e)
-
-  pub ended_part : (st.opened ≡ 0 → ⊥) → may_end st ≡ false
-  ended_part e = rw (ne_eqb st.opened 0 e)
-
-  module _ (none : st.opened ≡ 0) where
-    pub yet_pcr : st.pcr ≡ true → nothing_yet st ≡ false
-    yet_pcr e = rw (eq-eqb st.opened 0 none, e)
-
-    module _ (no_pcr : st.pcr ≡ false) where
-      pub yet_results : (st.results ≡ 0 → ⊥) → nothing_yet st ≡ false
-      yet_results e = rw (eq-eqb st.opened 0 none, no_pcr, ne_eqb st.results 0 e)
-
-      pub yet_wafers : st.results ≡ 0 → nothing_yet st ≡ eqb st.wafers 0
-      yet_wafers e = rw (eq-eqb st.opened 0 none, no_pcr, eq-eqb st.results 0 e)
-
-    pub ended_wafer : (st.wafers ≡ 0 → ⊥) → may_end st ≡ false
-    ended_wafer e = rw (eq-eqb st.opened 0 none, ne_eqb st.wafers 0 e)
-
-    pub ended_by_pcr : st.wafers ≡ 0 → may_end st ≡ st.pcr
-    ended_by_pcr e = rw (eq-eqb st.opened 0 none, eq-eqb st.wafers 0 e)
-
-module _ (s : Session) where
-  pub sound_parts : parts_right s.standing.opened s.parts ≡ false → sound s ≡ false
-  unfolding sound
-  sound_parts e = rw e
-
-  module _ (parts : parts_right s.standing.opened s.parts ≡ true) where
-    pub sound_wafers : wafers_right s.standing.wafers s.parts ≡ false → sound s ≡ false
-    unfolding sound
-    sound_wafers e = rw (parts, e)
-
-    pub sound_stands : wafers_right s.standing.wafers s.parts ≡ true
-        → sound s ≡ stands_right s.standing.place s.standing
-    unfolding sound
-    sound_stands e = rw (parts, e)
+-- a list that rises is below a bound if its last element is
+pub kept_last : (most bound used : ℕ) (cells : List ℕ) → used ≤ most → rising (take used cells) ≡ true
+    → (used ≡ 0 → ⊥) → most ≤ length cells
+    → kept_right most bound used cells ≡ ltb (get_or cells (used - 1) 0) bound
+unfolding kept_right
+kept_last most bound used cells few rises some long =
+    let taken : length (take used cells) ≡ used = length-take-le used cells (omega arith) in
+    let last : length (take used cells) ≡ suc (used - 1) = omega arith in
+    rw (
+      le-leb used most few,
+      rises,
+      below_last bound (take used cells) (used - 1) rises last,
+      get_or-take used cells (used - 1) 0 (omega arith),
+    )
 
 -- ---- what soundness tells, and what tells it
 
@@ -134,7 +84,7 @@ module _ (s : Session) where
 
     pub sound_heads_rise : rising (heads_in s.standing.wafers s.parts) ≡ true
     sound_heads_rise =
-        rw (← map_take wafer_head s.standing.wafers (drop most_open s.parts)) sound_wafers_told.rises
+        rw (← take-map wafer_head s.standing.wafers (drop most_open s.parts)) sound_wafers_told.rises
 
     pub sound_wafers_rise : rising (wafers_of s) ≡ true
     sound_wafers_rise = heads_rise_lem (wafers_of s) sound_heads_rise

@@ -8,33 +8,23 @@ use Prim.Native.Nat.{ℕ, zero, suc, ◌+◌, ◌*◌, ◌/◌, ◌≤◌, ◌<�
 use native.Mathlib.Omega.{arith}
 use borrow.Author.Tests.{lt-ltb, le-ltb, eq-eqb, eqb-true}
 use lib.Dec.{eqb}
-use lib.ListN.{length, get_or, take, drop, get_or-map, length-map, drop_of_length-le}
-use lib.Seq.{drop-cons}
+use lib.ListN.{get_or, take, drop, get_or-map, length-map}
+use Rattle.std.proofs.lemmas.List.{take-map, drop-map}
 use Rattle.rising.specs.Rising.{rising_from, rising, rank, held, inserted, removed}
 use Rattle.rising.proofs.Laws.{side, rising_head, rising_rest, rising_cons, held_rank, rank_own}
-use Rattle.session.specs.Session.{cell_count, wafer_number, wafer_head, head_cells}
+use Rattle.session.specs.Session.{wafer_number, wafer_head}
 use Rattle.session.specs.Laws.{HeadsRise, HeadRank, WaferOn, WaferRank}
 
--- ---- the heads of a list of wafers, and those of a part of it
-
-pub map_take : (f : ℕ → ℕ) (n : ℕ) (xs : List ℕ) → take n (map f xs) ≡ map f (take n xs)
-map_take f zero xs = refl
-map_take f (suc n) [] = refl
-map_take f (suc n) (x ∷ xs) = ap (λ (l : List ℕ). f x ∷ l) (map_take f n xs)
+-- ---- the heads of a list of wafers
 
 pub map_inserted : (f : ℕ → ℕ) (xs : List ℕ) (at v : ℕ) → map f (inserted xs at v) ≡ inserted (map f xs) at (f v)
 map_inserted f xs zero v = refl
 map_inserted f [] (suc at) v = refl
 map_inserted f (x ∷ xs) (suc at) v = ap (λ (l : List ℕ). f x ∷ l) (map_inserted f xs at v)
 
-pub map_drop : (f : ℕ → ℕ) (n : ℕ) (xs : List ℕ) → drop n (map f xs) ≡ map f (drop n xs)
-map_drop f zero xs = refl
-map_drop f (suc n) [] = refl
-map_drop f (suc n) (x ∷ xs) = map_drop f n xs
-
 pub map_removed : (f : ℕ → ℕ) (xs : List ℕ) (at n : ℕ) → map f (removed xs at n) ≡ removed (map f xs) at n
 map_removed f xs at n =
-    map-append f (take at xs) (drop (at + n) xs) ∙ rw (map_take f at xs, map_drop f (at + n) xs)
+    map-append f (take at xs) (drop (at + n) xs) ∙ rw (take-map f at xs, drop-map f (at + n) xs)
 
 -- ---- heads
 
@@ -79,29 +69,3 @@ wafer_rank head group ws low rises there =
     get_or-map wafer_head ws r 0 ∙ omega (arith, at.1) in
     sym (rank_own (map wafer_head ws) r rises (omega (arith, at.0, length-map ws wafer_head)))
     ∙ ap (λ (k : ℕ). rank k (map wafer_head ws)) on
-
--- ---- the cells that wafers stand in, one by one
-
-pub eight_heads : (cells : List ℕ) → length cells ≡ cell_count
-    → head_cells cells
-    ≡ get_or cells 32 0 / 256
-    ∷ get_or cells 33 0 / 256
-    ∷ get_or cells 34 0 / 256
-    ∷ get_or cells 35 0 / 256
-    ∷ get_or cells 36 0 / 256
-    ∷ get_or cells 37 0 / 256
-    ∷ get_or cells 38 0 / 256
-    ∷ get_or cells 39 0 / 256
-    ∷ []
-eight_heads cells long =
-    rw (
-      drop-cons cells 32 0 (omega arith),
-      drop-cons cells 33 0 (omega arith),
-      drop-cons cells 34 0 (omega arith),
-      drop-cons cells 35 0 (omega arith),
-      drop-cons cells 36 0 (omega arith),
-      drop-cons cells 37 0 (omega arith),
-      drop-cons cells 38 0 (omega arith),
-      drop-cons cells 39 0 (omega arith),
-      drop_of_length-le cells {i = 40} (omega arith),
-    )

@@ -26,16 +26,16 @@ pub struct Standing {
     pub wafers: usize,
 }
 
-// The open parts stand rising in the first `opened` of 32 cells, each as head * 256 + site; the open wafers in the
-// first `wafers` of the 8 cells behind those, in rising order of head, each as head * 256 + site group. One row of
+// The open parts stand rising in the first `opened` of PARTS cells, each as head * 256 + site; the open wafers in the
+// first `wafers` of the WAFERS cells behind those, in rising order of head, each as head * 256 + site group. One row of
 // cells, so that what is lent of a session is one slice.
 #[derive(Clone, Copy)]
 pub struct Session {
     pub standing: Standing,
-    pub parts: [u64; 40],
+    pub parts: [u64; Session::CELLS],
 }
 
-// What an accepted record makes of a session: its standing after it, and what becomes of its open parts and
+// What an accepted record makes of a session: its standing after it, `next`, and what becomes of its open parts and
 // wafers. Those that judge and settle alone look into it: a house hands it back to be settled, so that a kind with an
 // effect of its own is no business of a house.
 #[derive(Clone, Copy)]
@@ -43,13 +43,27 @@ pub enum Change {
     // The parts and the wafers stay.
     Stands(Standing),
     // A part opens, at its rank among the open ones.
-    Opens(Standing, usize, u64),
+    Opens {
+        next: Standing,
+        rank: usize,
+        part: u64,
+    },
     // The part at a rank closes.
-    Closes(Standing, usize),
+    Closes {
+        next: Standing,
+        rank: usize,
+    },
     // A wafer opens, at the rank of its head among those of the open ones.
-    WaferOpens(Standing, usize, u64),
+    WaferOpens {
+        next: Standing,
+        rank: usize,
+        wafer: u64,
+    },
     // The wafer at a rank closes.
-    WaferCloses(Standing, usize),
+    WaferCloses {
+        next: Standing,
+        rank: usize,
+    },
 }
 
 // What a record does to a session.
@@ -67,14 +81,7 @@ pub enum Verdict {
 pub fn is_start(place: Place) -> bool
     ensures { result ≡ is_start place }
 {
-    match place {
-        Place::Start => true,
-        Place::Header => false,
-        Place::Lot => false,
-        Place::Setup => false,
-        Place::Body => false,
-        Place::Ended => false,
-    }
+    place == Place::Start
 }
 
 // The answer of a verdict. A part result that passes all checks but the last is still to be judged for room.
@@ -83,27 +90,33 @@ pub fn verdict_answer(verdict: Verdict) -> Answer
 {
     match verdict {
         Verdict::Refused(answer) => answer,
-        Verdict::Taken(_) => Answer::Done,
-        Verdict::Wanted(_, _) => Answer::Done,
+        Verdict::Taken(_) | Verdict::Wanted(_, _) => Answer::Done,
     }
 }
 
 impl Session {
+    // The most open parts, and the most open wafers.
+    pub const PARTS: usize = 32;
+
+    pub const WAFERS: usize = 8;
+
+    // The cells of both.
+    pub const CELLS: usize = 40;
+
     // A session that has followed nothing yet.
     pub fn begin() -> Session
         ensures { result ≡ begun }
     {
-        let standing = Standing {
-            place: Place::Start,
-            order: Order::HighFirst,
-            opened: 0,
-            pcr: false,
-            results: 0,
-            wafers: 0,
-        };
         Session {
-            standing,
-            parts: [0; 40],
+            standing: Standing {
+                place: Place::Start,
+                order: Order::HighFirst,
+                opened: 0,
+                pcr: false,
+                results: 0,
+                wafers: 0,
+            },
+            parts: [0; Session::CELLS],
         }
     }
 }

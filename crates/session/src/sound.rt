@@ -15,90 +15,52 @@ fn kept_right(used: usize, most: usize, bound: u64, cells: &[u64]) -> bool
     requires { most ≤ length cells.now }
     ensures { result ≡ kept_right most bound used cells.now }
 {
-    if most < used {
-        return false;
-    }
-    if rising::is_rising(cells, used) {
-        if used == 0 {
-            return true;
-        }
-        return cells[used - 1] < bound;
-    }
-    false
+    used <= most && rising::is_rising(cells, used) && (used == 0 || cells[used - 1] < bound)
 }
 
 // Open parts are distinct, at most 32, heads at most 254.
-pub fn parts_right(opened: usize, parts: &[u64; 40]) -> bool
-    requires { length parts.now ≡ 40 }
+pub fn parts_right(opened: usize, parts: &[u64; Session::CELLS]) -> bool
     ensures { result ≡ parts_right opened parts.now }
 {
-    kept_right(opened, 32, PAST_PARTS, parts)
+    kept_right(opened, Session::PARTS, PAST_PARTS, parts)
 }
 
 // The heads of the cells that wafers stand in.
-fn head_cells(parts: &[u64; 40]) -> [u64; 8]
-    requires { length parts.now ≡ 40 }
+fn head_cells(parts: &[u64; Session::CELLS]) -> [u64; Session::WAFERS]
     ensures { result ≡ head_cells parts.now }
 {
-    [
-        parts[32] / 256,
-        parts[33] / 256,
-        parts[34] / 256,
-        parts[35] / 256,
-        parts[36] / 256,
-        parts[37] / 256,
-        parts[38] / 256,
-        parts[39] / 256,
-    ]
+    let mut heads = [0; Session::WAFERS];
+    for i in 0..Session::WAFERS {
+        heads[i] = parts[Session::PARTS + i] / 256;
+    }
+    heads
 }
 
 // Open wafers have distinct heads, and are at most 8. Most sessions have none.
-pub fn wafers_right(wafers: usize, parts: &[u64; 40]) -> bool
-    requires { length parts.now ≡ 40 }
+pub fn wafers_right(wafers: usize, parts: &[u64; Session::CELLS]) -> bool
     ensures { result ≡ wafers_right wafers parts.now }
 {
-    if wafers == 0 {
-        return true;
-    }
-    let heads = head_cells(parts);
-    kept_right(wafers, 8, 256, &heads)
+    wafers == 0 || kept_right(wafers, Session::WAFERS, 256, &head_cells(parts))
 }
 
 pub fn nothing_yet(st: Standing) -> bool
     ensures { result ≡ nothing_yet st }
 {
-    if st.opened != 0 {
-        return false;
-    }
-    if st.pcr {
-        return false;
-    }
-    if st.results != 0 {
-        return false;
-    }
-    st.wafers == 0
+    st.opened == 0 && !st.pcr && st.results == 0 && st.wafers == 0
 }
 
 fn may_end(st: Standing) -> bool
     ensures { result ≡ may_end st }
 {
-    if st.opened == 0 {
-        if st.wafers == 0 { st.pcr } else { false }
-    } else {
-        false
-    }
+    st.opened == 0 && st.wafers == 0 && st.pcr
 }
 
 // What a place asks of the rest of a session.
 pub fn stands_right(st: Standing) -> bool
     ensures { result ≡ stands_right st.place st }
 {
-    let place = st.place;
-    match place {
-        Place::Start => nothing_yet(st),
-        Place::Header => nothing_yet(st),
-        Place::Lot => nothing_yet(st),
-        Place::Setup => nothing_yet(st),
+    match st.place {
+        Place::Start | Place::Header | Place::Lot | Place::Setup => nothing_yet(st),
         Place::Body => true,
         Place::Ended => may_end(st),
     }
@@ -107,15 +69,7 @@ pub fn stands_right(st: Standing) -> bool
 pub fn is_sound(session: Session) -> bool
     ensures { result ≡ sound session }
 {
-    let s = session;
-    let st = s.standing;
-    let opened = st.opened;
-    let wafers = st.wafers;
-    if !parts_right(opened, &s.parts) {
-        return false;
-    }
-    if !wafers_right(wafers, &s.parts) {
-        return false;
-    }
-    stands_right(st)
+    parts_right(session.standing.opened, &session.parts)
+        && wafers_right(session.standing.wafers, &session.parts)
+        && stands_right(session.standing)
 }

@@ -1,20 +1,22 @@
--- `kind_effects::judge_mrr` meets its contract: each return is one case of `judge_mrr`.
+-- `kind_effects::judge_mrr` meets its contract: each return is one case of `judge_mrr`. The smallest of the open parts is
+-- the first of the cells that they stand in.
 -- Assumes nothing.
-use mathlib.Core.Path.{ap, sym, ◌∙◌}
-use Rattle.session.specs.declared.Verdict.TheVariants.{Refused}
-use Rattle.kind_effects.proofs.Laws.{mrr_open, mrr_wafer, mrr_ends, mrr_no_pcr}
+use Rattle.std.proofs.Common.{rules}
+use Rattle.kind_effects.specs.Effects.{judge_mrr}
+use Rattle.kind_effects.proofs.Laws.{mrr_open}
 use Rattle.kind_effects.proofs.judge_mrr.Goals as goal
 
 pub returns-then-st-ne0 : goal.returns-then-st-ne0
-returns-then-st-ne0 c = ap Refused c.still_open.ensures ∙ sym (mrr_open _ _ c.if-st-ne0.true)
+returns-then-st-ne0 c = search (rules, mrr_open)
 
 pub returns-then-st-ne0-2 : goal.returns-then-st-ne0-2
-returns-then-st-ne0-2 c = sym (mrr_wafer _ _ c.if-st-ne0.false c.if-st-ne0-2.true)
+unfolding judge_mrr
+returns-then-st-ne0-2 c = search rules
 
-pub returns-then-st : goal.returns-then-st
-returns-then-st c =
-    sym (mrr_ends _ _ c.if-st-ne0.false c.if-st-ne0-2.false c.if-st.true)
+pub returns-then-not-st : goal.returns-then-not-st
+unfolding judge_mrr
+returns-then-not-st c = search rules
 
-pub returns-else-st : goal.returns-else-st
-returns-else-st c =
-    sym (mrr_no_pcr _ _ c.if-st-ne0.false c.if-st-ne0-2.false c.if-st.false)
+pub returns : goal.returns
+unfolding judge_mrr
+returns c = search rules

@@ -1,22 +1,18 @@
 -- `session::sound::kept_right` meets its contract: each return is one case of `kept_right`.
 -- Assumes nothing.
-use mathlib.Core.Path.{sym, ◌∙◌}
-use Rattle.session.proofs.Laws.{kept_many, kept_fall, kept_none, kept_last}
+use Rattle.std.proofs.Common.{rules}
+use Rattle.rising.specs.Rising.{rising_from, rising, all_below}
+use Rattle.session.specs.Session.{kept_right}
+use Rattle.session.proofs.Laws.{kept_last}
 use Rattle.session.proofs.sound.kept_right.Goals as goal
 
-pub returns-then-most-used : goal.returns-then-most-used
-returns-then-most-used c = sym (kept_many _ _ _ _ c.if-most-used.true)
-
 pub returns-then-used-eq0 : goal.returns-then-used-eq0
-returns-then-used-eq0 c =
-    sym (kept_none _ _ _ _ c.if-most-used.false c.if-used-eq0.true)
+unfolding kept_right all_below rising rising_from
+returns-then-used-eq0 c = search rules
 
-pub returns-then-is_rising : goal.returns-then-is_rising
-returns-then-is_rising c =
-    sym
-    (kept_last _ _ _ _ c.if-most-used.false (sym c.is_rising.ensures ∙ c.if-is_rising.true) c.if-used-eq0.false
-    c.requires)
+pub returns-else-used-eq0 : goal.returns-else-used-eq0
+returns-else-used-eq0 c = search (rules, kept_last)
 
-pub returns : goal.returns
-returns c =
-    sym (kept_fall _ _ _ _ c.if-most-used.false (sym c.is_rising.ensures ∙ c.if-is_rising.false))
+pub returns-else-is_rising : goal.returns-else-is_rising
+unfolding kept_right
+returns-else-is_rising c = search rules
