@@ -21,20 +21,16 @@ pub fn sum_is(keys: &[u64], counts: &[u64], used: usize, slot: usize, total: u32
     requires { (slot < 16) × (used ≤ 65536) × Kept keys.now counts.now used }
     ensures { result ≡ eqb (sum_by slot (take used keys.now) (take used counts.now)) total }
 {
+    let from = slot_rank(keys, used, slot);
     let end = slot_rank(keys, used, slot + 1);
-    let mut i = slot_rank(keys, used, slot);
     let mut sum: u64 = 0;
     let mut above: u64 = 0;
-    while i < end {
+    for i in from..end {
         let count = counts[i];
         sum += count % PAST_TOTALS;
-        above = above | (count / PAST_TOTALS);
-        i += 1;
+        above |= count / PAST_TOTALS;
     }
-    if above != 0 {
-        return false;
-    }
-    sum == total as u64
+    above == 0 && sum == u64::from(total)
 }
 
 // Whether no key has a bit that none may have: `joined` has the bits of all of them, and `carried` those of all of them
@@ -42,13 +38,7 @@ pub fn sum_is(keys: &[u64], counts: &[u64], used: usize, slot: usize, total: u32
 fn bits_fit(joined: u64, carried: u64) -> bool
     ensures { result ≡ bits_fit joined carried }
 {
-    if joined / PAST_SLOTS != 0 {
-        return false;
-    }
-    if carried / SLOT_SPAN != 0 {
-        return false;
-    }
-    joined / 32768 % 2 == 0
+    joined / PAST_SLOTS == 0 && carried / SLOT_SPAN == 0 && joined / 32768 % 2 == 0
 }
 
 // Whether every row has a slot, a head and a bin that there are, and a count. No early return, and the keys are joined
@@ -60,20 +50,13 @@ pub fn rows_fit(keys: &[u64], counts: &[u64], used: usize) -> bool
     let mut joined: u64 = 0;
     let mut carried: u64 = 0;
     let mut counted = true;
-    let mut i: usize = 0;
-    while i < used {
+    for i in 0..used {
         let key = keys[i];
-        joined = joined | key;
-        carried = carried | (key % SLOT_SPAN + HEAD_SPAN);
-        if counts[i] == 0 {
-            counted = false;
-        }
-        i += 1;
+        joined |= key;
+        carried |= key % SLOT_SPAN + HEAD_SPAN;
+        counted &= counts[i] != 0;
     }
-    if !counted {
-        return false;
-    }
-    bits_fit(joined, carried)
+    counted && bits_fit(joined, carried)
 }
 
 // Whether every row's slot is open. Rows stand by slot, so the first of a slot's rows tells for all of them.
@@ -88,8 +71,7 @@ pub fn rows_open(taken: &[bool], keys: &[u64], used: usize) -> bool
         if !taken[slot] {
             return false;
         }
-        let next = slot + 1;
-        i = slot_rank(keys, used, next);
+        i = slot_rank(keys, used, slot + 1);
     }
     true
 }

@@ -37,8 +37,7 @@ pub fn count_row(keys: &mut [u64], counts: &mut [u64], used: usize, at: usize, k
         ≡ counted keys.old counts.old used key }
 {
     if holds(keys, used, at, key) {
-        let count = counts[at];
-        counts[at] = count + 1;
+        counts[at] += 1;
         return used;
     }
     insert(keys, used, at, key);

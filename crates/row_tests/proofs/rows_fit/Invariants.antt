@@ -3,7 +3,6 @@
 -- Assumes nothing.
 use mathlib.Core.Path.{◌≡◌}
 use mathlib.Core.Bool.{◌&&◌}
-use Prim.Native.Nat.{◌-◌}
 use lib.ListN.{take, drop}
 use Rattle.rows.specs.Rows.{bits_fit, rows_fit}
 use Rattle.row_tests.proofs.rows_fit.Given as goal
@@ -12,6 +11,3 @@ abbrev pub invariant-loop-i : goal.invariant-loop-i
 invariant-loop-i l = rows_fit (take l.used l.keys) (take l.used l.counts)
     ≡ ((bits_fit l.joined l.carried && l.counted)
     && rows_fit (drop l.i (take l.used l.keys)) (drop l.i (take l.used l.counts)))
-
-abbrev pub decreases-loop-i : goal.decreases-loop-i
-decreases-loop-i l = l.used - l.i

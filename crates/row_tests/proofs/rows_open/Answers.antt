@@ -43,14 +43,6 @@ returns-then-not-taken-slot c =
     c.loop-i.invariant _ refl
     ∙ rw c.if-not-taken-slot.true)
 
-pub overflow_add-next : goal.overflow_add-next
-overflow_add-next c = record {
-  fits = omega (
-    arith,
-    low c.args.taken.now c.args.keys.now c.args.used c.loop-i.i c.requires.1 c.loop-i-test.true c.requires.3,
-  );
-}
-
 pub slot_rank-i-requires : goal.slot_rank-i-requires
 slot_rank-i-requires c = (
   omega (

@@ -1,7 +1,7 @@
 -- `row_tests::sum_is` meets its contract. The invariant: the slot's sum is what is added up with the rows from i on,
 -- where nothing stands above, and is more than any total where something does.
 -- Assumes nothing.
-use mathlib.Core.Path.{◌≡◌, sym}
+use mathlib.Core.Path.{◌≡◌, sym, ◌∙◌}
 use mathlib.Core.List.{List}
 use Prim.Native.Nat.{ℕ, ◌+◌, ◌≤◌, ◌<◌}
 use native.Mathlib.Omega.{arith}
@@ -23,6 +23,9 @@ module _ (keys counts : List ℕ) (used slot : ℕ) where
 
   module _ (kept : Kept keys counts used) (from to : ℕ) (first : from ≡ slot_rank slot (take used keys))
       (last : to ≡ slot_rank (slot + 1) (take used keys)) where
+    up : from ≤ to
+    up = stretch_up _ _ kept.fits kept.rises _ _ _ first last
+
     within : to ≤ used
     within = stretch_within _ _ kept.fits kept.rises _ _ _ first last
 
@@ -38,17 +41,18 @@ module _ (keys counts : List ℕ) (used slot : ℕ) where
 pub loop-i-init : goal.loop-i-init
 loop-i-init c =
     let kept = c.requires.2 in
-    let rows-from = c.slot_rank-i.ensures in
-    let rows-to = c.slot_rank-end.ensures in
-    let up = stretch_up _ _ kept.fits kept.rises _ _ _ rows-from rows-to in
-    let counts = c.args.counts.now in
-    let all = rest_first _ _ kept.fits kept.rises _ _ _ rows-from rows-to counts kept.paired in
-    (omega arith, omega arith, omega arith, added_first _ _ all)
+    record {
+      small = omega arith;
+      added =
+          added_first _ _
+          (rest_first _ _ kept.fits kept.rises _ _ _ c.slot_rank-from.ensures c.slot_rank-end.ensures c.args.counts.now
+          kept.paired);
+    }
 
 pub offset_bounds-counts-i : goal.offset_bounds-counts-i
 offset_bounds-counts-i c =
     let inside =
-    within c.args.keys.now c.args.counts.now c.args.used c.args.slot c.requires.2 _ _ c.slot_rank-i.ensures
+    within c.args.keys.now c.args.counts.now c.args.used c.args.slot c.requires.2 _ _ c.slot_rank-from.ensures
     c.slot_rank-end.ensures in
     search rules
 
@@ -56,7 +60,7 @@ pub bounds-counts-i : goal.bounds-counts-i
 bounds-counts-i c =
     omega (
       arith,
-      within c.args.keys.now c.args.counts.now c.args.used c.args.slot c.requires.2 _ _ c.slot_rank-i.ensures
+      within c.args.keys.now c.args.counts.now c.args.used c.args.slot c.requires.2 _ _ c.slot_rank-from.ensures
           c.slot_rank-end.ensures,
     )
 
@@ -64,7 +68,7 @@ pub overflow_add-sum : goal.overflow_add-sum
 overflow_add-sum c = record {
   fits = omega (
     arith,
-    within c.args.keys.now c.args.counts.now c.args.used c.args.slot c.requires.2 _ _ c.slot_rank-i.ensures
+    within c.args.keys.now c.args.counts.now c.args.used c.args.slot c.requires.2 _ _ c.slot_rank-from.ensures
         c.slot_rank-end.ensures,
     c.requires.1,
   );
@@ -73,24 +77,31 @@ overflow_add-sum c = record {
 pub loop-i-preserved : goal.loop-i-preserved
 loop-i-preserved c =
     let step =
-    next c.args.keys.now c.args.counts.now c.args.used c.args.slot c.requires.2 _ _ c.slot_rank-i.ensures
-    c.slot_rank-end.ensures c.loop-i.i (omega arith) (omega arith) in
-    (omega arith, omega arith, omega arith, added_next _ _ _ _ _ _ c.loop-i.invariant.3 step)
+    next c.args.keys.now c.args.counts.now c.args.used c.args.slot c.requires.2 _ _ c.slot_rank-from.ensures
+    c.slot_rank-end.ensures c.loop-i.i (omega arith) (omega arith) in record {
+      small = omega (arith, c.loop-i.invariant.small);
+      added = added_next _ _ _ _ _ _ c.loop-i.invariant.added step;
+    }
 
-pub returns-then-above-ne0 : goal.returns-then-above-ne0
-returns-then-above-ne0 c =
+pub returns-then-above-eq0 : goal.returns-then-above-eq0
+returns-then-above-eq0 c =
     let so =
-    told c.args.keys.now c.args.counts.now c.args.used c.args.slot c.requires.2 _ _ c.slot_rank-i.ensures
-    c.slot_rank-end.ensures c.loop-i.i _ _ c.loop-i.invariant.1 c.loop-i-test.false c.loop-i.invariant.3 in
-    let much = so.large c.if-above-ne0.true in
-    sym (ne_eqb (whole c.args.keys.now c.args.counts.now c.args.used c.args.slot) c.args.total
-    (omega (arith, c.ranges.total)))
-
-pub returns : goal.returns
-returns c =
-    let so =
-    told c.args.keys.now c.args.counts.now c.args.used c.args.slot c.requires.2 _ _ c.slot_rank-i.ensures
-    c.slot_rank-end.ensures c.loop-i.i _ _ c.loop-i.invariant.1 c.loop-i-test.false c.loop-i.invariant.3 in
+    told c.args.keys.now c.args.counts.now c.args.used c.args.slot c.requires.2 _ _ c.slot_rank-from.ensures
+    c.slot_rank-end.ensures c.loop-i.i _ _
+    (c.loop-i.auto.i-end
+    (up _ c.args.counts.now _ _ c.requires.2 _ _ c.slot_rank-from.ensures c.slot_rank-end.ensures)) c.loop-i-test.false c.loop-i.invariant.added in
     let is : whole c.args.keys.now c.args.counts.now c.args.used c.args.slot ≡ c.loop-i.sum =
-    omega (arith, so.exact c.if-above-ne0.false) in
-    rw is
+    omega (arith, so.exact c.if-above-eq0.true) in
+    rw (is, c.from.ensures)
+
+pub returns-else-above-eq0 : goal.returns-else-above-eq0
+returns-else-above-eq0 c =
+    let so =
+    told c.args.keys.now c.args.counts.now c.args.used c.args.slot c.requires.2 _ _ c.slot_rank-from.ensures
+    c.slot_rank-end.ensures c.loop-i.i _ _
+    (c.loop-i.auto.i-end
+    (up _ c.args.counts.now _ _ c.requires.2 _ _ c.slot_rank-from.ensures c.slot_rank-end.ensures)) c.loop-i-test.false c.loop-i.invariant.added in
+    let much = so.large c.if-above-eq0.false in
+    ne_eqb c.loop-i.above 0 c.if-above-eq0.false
+    ∙ sym (ne_eqb (whole c.args.keys.now c.args.counts.now c.args.used c.args.slot) c.args.total
+    (omega (arith, c.ranges.total)))
