@@ -2,7 +2,7 @@
 // stated offset of the lent output; #103, dates. Each writer gets the part behind what the last one wrote.
 #![tactic(auto)]
 
-ghost use Rattle.std.specs.Prelude.{◌≡◌, ◌+◌, ◌-◌, ◌*◌, ◌≤◌, ◌<◌, [], ◌∷◌, length};
+ghost use Rattle.std.specs.Prelude.{◌≡◌, ◌+◌, ◌-◌, ◌*◌, ◌≤◌, ◌<◌, length};
 ghost use Rattle.numbers.specs.Numbers.{written};
 ghost use Rattle.output.specs.Placed.{Put, Room, outcome, placed_at};
 ghost use Rattle.line_layouts.specs.Columns.{tag_text, columns, most_columns, width};
@@ -13,12 +13,13 @@ ghost use Rattle.line_layouts.specs.Layouts.{laid_out};
 
 use answers::Answer;
 use line_layouts::columns::{
-    LINE_FEED, bar_of, column_at, column_count, order_at, sub_of, type_of, width_of,
+    LINE_FEED, bar_of, column_at, column_count, order_at, sub_of, tag_text, type_of, width_of,
 };
 use line_layouts::forms::{is_name, is_time, missing_value};
 use line_layouts::judging::{is_missing, said_at};
 use line_layouts::{Form, Layout, Line, Said, Tag};
 use numbers::Order;
+use output::{put, put_bytes, put_part};
 use values::Name;
 
 // A number in a line: a time is a date.
@@ -29,7 +30,7 @@ fn put_spelt(out: &mut [u8], form: Form, n: u32) -> usize
     if is_time(form) {
         dates::write_date(out, n)
     } else {
-        digits::put_digits(out, n as u64)
+        digits::put_digits(out, u64::from(n))
     }
 }
 
@@ -52,11 +53,7 @@ fn put_entry(out: &mut [u8], form: Form, source: &[u8], said: Said) -> usize
     match said {
         Said::Missing => 0,
         Said::Number(n) => put_spelt(out, form, n),
-        Said::Text(name) => {
-            let at = name.at;
-            let len = name.len;
-            output::put_part(out, source, at, len)
-        }
+        Said::Text(name) => put_part(out, source, name.at, name.len),
     }
 }
 
@@ -77,16 +74,12 @@ fn put_number(out: &mut [u8], order: Order, form: Form, n: u32) -> usize
     ensures { Put (written order (width form) n) out.old result out.new }
 {
     let w = width_of(form);
-    if w == 4 {
-        numbers::put_u4(order, out, n);
-        return 4;
+    match w {
+        4 => numbers::put_u4(order, out, n),
+        2 => numbers::put_u2(order, out, (n % 65536) as u16),
+        _ => numbers::put_u1(order, out, (n % 256) as u8),
     }
-    if w == 2 {
-        numbers::put_u2(order, out, (n % 65536) as u16);
-        return 2;
-    }
-    numbers::put_u1(order, out, (n % 256) as u8);
-    1
+    w
 }
 
 // A name with its count byte.
@@ -95,10 +88,8 @@ fn put_name(out: &mut [u8], order: Order, source: &[u8], name: Name) -> usize
     ensures { Put (counted_name order (named source.now name)) out.old result
         out.new }
 {
-    let at = name.at;
-    let len = name.len;
-    let n = put_number(out, order, Form::Cn, len as u32);
-    n + output::put_part(&mut out[n..], source, at, len)
+    let n = put_number(out, order, Form::Cn, name.len as u32);
+    n + put_part(&mut out[n..], source, name.at, name.len)
 }
 
 // Text in a record: a name is counted, P/F is its byte.
@@ -111,9 +102,7 @@ fn put_text(out: &mut [u8], order: Order, form: Form, source: &[u8], name: Name)
     if is_name(form) {
         put_name(out, order, source, name)
     } else {
-        let at = name.at;
-        let len = name.len;
-        output::put_part(out, source, at, len)
+        put_part(out, source, name.at, name.len)
     }
 }
 
@@ -134,11 +123,7 @@ fn text_size(order: Order, form: Form, source: &[u8], name: Name) -> usize
     requires { Within source.now (Said.Text name) }
     ensures { (result ≡ length (counted order form (named source.now name))) × (result ≤ 256) }
 {
-    if is_name(form) {
-        name.len + 1
-    } else {
-        name.len
-    }
+    name.len + usize::from(is_name(form))
 }
 
 fn stored_size(order: Order, form: Form, source: &[u8], said: Said) -> usize
@@ -146,8 +131,7 @@ fn stored_size(order: Order, form: Form, source: &[u8], said: Said) -> usize
     ensures { (result ≡ length (stored order form (entry_of source.now said))) × (result ≤ 256) }
 {
     match said {
-        Said::Missing => width_of(form),
-        Said::Number(_) => width_of(form),
+        Said::Missing | Said::Number(_) => width_of(form),
         Said::Text(name) => text_size(order, form, source, name),
     }
 }
@@ -165,7 +149,7 @@ fn put_marked(out: &mut [u8], form: Form, source: &[u8], said: Said, sep: u8, la
         out.new }
 {
     let n = put_entry(out, form, source, said);
-    n + output::put(&mut out[n..], [mark_of(sep, last)])
+    n + put(&mut out[n..], [mark_of(sep, last)])
 }
 
 // The column of field number j: a line's fields go in the order of the text.
@@ -184,11 +168,9 @@ fn put_nth(out: &mut [u8], layout: Layout, source: &[u8], line: Line, j: usize, 
     requires { Nth source.now line j n × Room (nth_bytes layout source.now line j n) out.old }
     ensures { Put (nth_bytes layout source.now line j n) out.old result out.new }
 {
-    let tag = line.tag;
-    let i = column_of(layout, tag, j);
+    let i = column_of(layout, line.tag, j);
     let said = said_at(line, i);
-    let column = column_at(tag, i);
-    let form = column.0;
+    let form = column_at(line.tag, i).form;
     match layout {
         Layout::Text(sep) => put_marked(out, form, source, said, sep, j + 1 == n),
         Layout::Record(order) => put_stored(out, order, form, source, said),
@@ -199,11 +181,9 @@ fn nth_size(layout: Layout, source: &[u8], line: Line, j: usize, n: usize) -> us
     requires { Nth source.now line j n }
     ensures { (result ≡ length (nth_bytes layout source.now line j n)) × (result ≤ 256) }
 {
-    let tag = line.tag;
-    let i = column_of(layout, tag, j);
+    let i = column_of(layout, line.tag, j);
     let said = said_at(line, i);
-    let column = column_at(tag, i);
-    let form = column.0;
+    let form = column_at(line.tag, i).form;
     match layout {
         Layout::Text(_) => entry_size(form, source, said) + 1,
         Layout::Record(order) => stored_size(order, form, source, said),
@@ -234,11 +214,9 @@ fn fields_size(layout: Layout, source: &[u8], line: Line, n: usize) -> usize
     requires { AllWithin source.now line × (n ≤ length (columns line.tag)) }
     ensures { (result ≡ length (rest_of layout source.now line 0 n)) × (result ≤ 256 * n) }
 {
-    let mut size: usize = 0;
-    let mut j: usize = 0;
-    while j < n {
+    let mut size = 0;
+    for j in 0..n {
         size += nth_size(layout, source, line, j, n);
-        j += 1;
     }
     size
 }
@@ -258,28 +236,13 @@ fn present_count(layout: Layout, line: Line) -> usize
     requires { length line.fields ≡ most_columns }
     ensures { Stops layout line result }
 {
-    let tag = line.tag;
-    let count = column_count(tag);
-    let mut n = bar_in(layout, tag);
-    let mut j = n;
-    while j < count {
-        if !is_missing(said_at(line, column_of(layout, tag, j))) {
+    let mut n = bar_in(layout, line.tag);
+    for j in n..column_count(line.tag) {
+        if !is_missing(said_at(line, column_of(layout, line.tag, j))) {
             n = j + 1;
         }
-        j += 1;
     }
     n
-}
-
-fn put_four(out: &mut [u8], a: u8, b: u8, c: u8, d: u8) -> usize
-    requires { Room (a ∷ b ∷ c ∷ d ∷ []) out.old }
-    ensures { Put (a ∷ b ∷ c ∷ d ∷ []) out.old result out.new }
-{
-    out[0] = a;
-    out[1] = b;
-    out[2] = c;
-    out[3] = d;
-    4
 }
 
 // What a line begins with.
@@ -287,13 +250,7 @@ pub fn put_tag(out: &mut [u8], tag: Tag) -> usize
     requires { Room (tag_text tag) out.old }
     ensures { Put (tag_text tag) out.old result out.new }
 {
-    match tag {
-        Tag::Pcr => put_four(out, b'P', b'C', b'R', b':'),
-        Tag::Hbr => put_four(out, b'H', b'B', b'R', b':'),
-        Tag::Sbr => put_four(out, b'S', b'B', b'R', b':'),
-        Tag::Wir => put_four(out, b'W', b'I', b'R', b':'),
-        Tag::Wrr => put_four(out, b'W', b'R', b'R', b':'),
-    }
+    put_bytes(out, tag_text(tag))
 }
 
 // A record's header, before a body of that size.
@@ -302,7 +259,7 @@ fn put_header(out: &mut [u8], order: Order, tag: Tag, size: u32) -> usize
     ensures { Put (head_of (Layout.Record order) tag size) out.old result out.new }
 {
     let n = put_number(out, order, Form::U2, size);
-    n + output::put(&mut out[n..], [type_of(tag), sub_of(tag)])
+    n + put(&mut out[n..], [type_of(tag), sub_of(tag)])
 }
 
 fn put_head(out: &mut [u8], layout: Layout, tag: Tag, size: u32) -> usize
@@ -322,8 +279,7 @@ fn put_all(out: &mut [u8], layout: Layout, source: &[u8], line: Line, n: usize, 
     ensures { Put (laid_out layout (meaning_of source.now line)) out.old result
         out.new }
 {
-    let tag = line.tag;
-    let k = put_head(out, layout, tag, size);
+    let k = put_head(out, layout, line.tag, size);
     k + put_fields(&mut out[k..], layout, source, line, 0, n)
 }
 
@@ -341,12 +297,9 @@ pub fn place(
 {
     let n = present_count(layout, line);
     let size = fields_size(layout, source, line, n);
-    if out.len() < at {
+    // A test, and not `get_mut`: no proof is generated of a `match` on a variant that holds a `&mut`.
+    if out.len().saturating_sub(at) < size + 4 {
         return Err(Answer::OutputTooShort);
     }
-    if out.len() - at < size + 4 {
-        return Err(Answer::OutputTooShort);
-    }
-    let k = put_all(&mut out[at..], layout, source, line, n, size as u32);
-    Ok(k)
+    Ok(put_all(&mut out[at..], layout, source, line, n, size as u32))
 }

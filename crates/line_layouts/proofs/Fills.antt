@@ -11,15 +11,15 @@ use lib.Dec.{eqb, ltb}
 use lib.ListN.{length, get_or, take, drop, set, replicate, length-append, length-take, length-drop}
 use lib.ListN.{get_or-eq_default}
 use lib.Seq.{take_all, take-suc-set, get_or-set_same, get_or-set_other, get_or-take, get_or-drop, ext_get_or}
-use Rattle.line_layouts.specs.declared.Field.{Field}
+use Rattle.line_layouts.specs.declared.Said.{Said}
 use Rattle.line_layouts.specs.Columns.{most_columns}
 use Rattle.line_layouts.specs.Entries.{Entry, entry_of, no_field, no_fields, padded, Within}
 
-pub map_append : (f : Field → Entry) (xs ys : List Field) → map f (xs ++ ys) ≡ map f xs ++ map f ys
+pub map_append : (f : Said → Entry) (xs ys : List Said) → map f (xs ++ ys) ≡ map f xs ++ map f ys
 map_append f [] ys = refl
 map_append f (x ∷ xs) ys = ap (λ (l : List Entry). f x ∷ l) (map_append f xs ys)
 
-pub map_take : (f : Field → Entry) (n : ℕ) (xs : List Field) → take n (map f xs) ≡ map f (take n xs)
+pub map_take : (f : Said → Entry) (n : ℕ) (xs : List Said) → take n (map f xs) ≡ map f (take n xs)
 map_take f zero xs = refl
 map_take f (suc n) [] = refl
 map_take f (suc n) (x ∷ xs) = ap (λ (l : List Entry). f x ∷ l) (map_take f n xs)
@@ -33,20 +33,20 @@ alike_at A a (suc n) zero = refl
 alike_at A a (suc n) (suc i) = alike_at A a n i
 
 none_at : (i : ℕ) → get_or no_fields i no_field ≡ no_field
-none_at i = alike_at Field no_field most_columns i
+none_at i = alike_at Said no_field most_columns i
 
-append_none : (fs ns : List Field) → ((i : ℕ) → get_or ns i no_field ≡ no_field)
+append_none : (fs ns : List Said) → ((i : ℕ) → get_or ns i no_field ≡ no_field)
     → (i : ℕ) → get_or (fs ++ ns) i no_field ≡ get_or fs i no_field
 append_none [] ns e i = e i
 append_none (f ∷ fs) ns e zero = refl
 append_none (f ∷ fs) ns e (suc i) = append_none fs ns e i
 
-pub padded_at : (fs : List Field) (i : ℕ) → get_or (padded fs) i no_field ≡ get_or fs i no_field
+pub padded_at : (fs : List Said) (i : ℕ) → get_or (padded fs) i no_field ≡ get_or fs i no_field
 padded_at fs i =
     append_none fs (drop (length fs) no_fields)
     (λ (k : ℕ). get_or-drop (length fs) no_fields k no_field ∙ none_at (length fs + k)) i
 
-pub length_padded : (fs : List Field) → length fs ≤ most_columns → length (padded fs) ≡ most_columns
+pub length_padded : (fs : List Said) → length fs ≤ most_columns → length (padded fs) ≡ most_columns
 length_padded fs h =
     length-append fs (drop (length fs) no_fields) ∙ omega (arith, length-drop (length fs) no_fields)
 
@@ -77,31 +77,31 @@ module _ (A : Type 0) (none : A) (all : List A) (j : ℕ) where
           rw (add-one j, get_or-set_other xs j i a none other) (so_far i ∙ later other (ltb i j) refl)
 
 -- fields stored one by one are all of them, and past them none
-pub stored_all : (all fs : List Field) (j : ℕ) → length all ≤ j → length all ≤ most_columns → length fs ≡ most_columns
+pub stored_all : (all fs : List Said) (j : ℕ) → length all ≤ j → length all ≤ most_columns → length fs ≡ most_columns
     → ((i : ℕ) → get_or fs i no_field ≡ get_or (take j all) i no_field) → fs ≡ padded all
 stored_all all fs j done few full so_far =
     ext_get_or no_field fs (padded all) (full ∙ sym (length_padded all few))
-    (λ (i : ℕ) inside. so_far i ∙ ap (λ (l : List Field). get_or l i no_field) (take_all j all done)
+    (λ (i : ℕ) inside. so_far i ∙ ap (λ (l : List Said). get_or l i no_field) (take_all j all done)
     ∙ sym (padded_at all i))
 
 -- ---- what they say
 
 module _ (s : List ℕ) where
-  abbrev pub says : Field → Entry
-  says f = entry_of s f.said
+  abbrev pub says : Said → Entry
+  says f = entry_of s f
 
   -- every field's bytes are there
-  abbrev pub Withins : List Field → Type 0
-  Withins fs = (i : ℕ) → Within s (get_or fs i no_field).said
+  abbrev pub Withins : List Said → Type 0
+  Withins fs = (i : ℕ) → Within s (get_or fs i no_field)
 
   pub within_none : Withins no_fields
   within_none i = rw (none_at i) tt
 
-  module _ (fs : List Field) (j : ℕ) (f : Field) (h : j < length fs) where
-    pub within_set : Withins fs → Within s f.said → Withins (set fs j f)
+  module _ (fs : List Said) (j : ℕ) (f : Said) (h : j < length fs) where
+    pub within_set : Withins fs → Within s f → Withins (set fs j f)
     within_set all there i = go (eqb i j) refl
       where
-        go : (t : Bool) → eqb i j ≡ t → Within s (get_or (set fs j f) i no_field).said
+        go : (t : Bool) → eqb i j ≡ t → Within s (get_or (set fs j f) i no_field)
         go true e = rw (eqb-true i j e, get_or-set_same fs j f no_field h) there
         go false e = rw (get_or-set_other fs j i f no_field (eqb-false i j e)) (all i)
 

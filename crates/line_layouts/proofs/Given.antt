@@ -17,7 +17,7 @@ use Rattle.line_layouts.specs.Fitting.{has_flag, entry_fits, entries_fit, given,
 use Rattle.line_layouts.specs.Fitting.{timed, all_timed, OnlyTimes}
 
 abbrev held : Column → Bool
-held c = is_time c.0 || not (c.2 && has_flag c.3)
+held c = is_time c.form || not (c.required && has_flag c.flag)
 
 table_held : (tag : Tag) → each held (columns tag) ≡ true
 table_held Pcr = refl
@@ -34,7 +34,7 @@ missing_timed true false flag f e = false_true (rw f at e)
 missing_timed false time flag f e = refl
 
 given_timed : (c : Column) (e : Entry) → held c ≡ true → entry_fits c e ≡ true → given c e ≡ timed c e
-given_timed c Missing h fit = missing_timed c.2 (is_time c.0) (has_flag c.3) fit h
+given_timed c Missing h fit = missing_timed c.required (is_time c.form) (has_flag c.flag) fit h
 given_timed c (Number n) h fit = refl
 given_timed c (Text bytes) h fit = refl
 

@@ -20,7 +20,6 @@ use Rattle.line_layouts.specs.declared.Tag.{Tag}
 use Rattle.line_layouts.specs.declared.Tag.TheVariants.{Pcr, Hbr, Sbr, Wir, Wrr}
 use Rattle.line_layouts.specs.declared.Said.{Said}
 use Rattle.line_layouts.specs.declared.Said.TheVariants as said
-use Rattle.line_layouts.specs.declared.Field.{Field}
 use Rattle.line_layouts.specs.declared.Line.{Line}
 use Rattle.line_layouts.specs.declared.Column.{Column}
 use Rattle.line_layouts.specs.declared.Layout.{Layout}
@@ -95,14 +94,14 @@ marked_size sep form e last is = omega (arith, length-append (entry_text form e)
 -- ---- field number j
 
 module _ (f : Said → Entry) where
-  get_d_map : (l : List Field) (j : ℕ)
-      → get_or (map (λ (x : Field). f x.said) l) j (f said.Missing) ≡ f (get_or l j no_field).said
+  get_d_map : (l : List Said) (j : ℕ)
+      → get_or (map f l) j (f said.Missing) ≡ f (get_or l j no_field)
   get_d_map [] zero = refl
   get_d_map [] (suc j) = refl
   get_d_map (x ∷ l) zero = refl
   get_d_map (x ∷ l) (suc j) = get_d_map l j
 
-length_map : (f : Field → Entry) (l : List Field) → length (map f l) ≡ length l
+length_map : (f : Said → Entry) (l : List Said) → length (map f l) ≡ length l
 length_map f [] = refl
 length_map f (x ∷ l) = ap suc (length_map f l)
 
@@ -192,18 +191,18 @@ entry_value source (said.Text name) e (suc k) = refl
 
 module _ (source : List ℕ) (line : Line) (full : length line.fields ≡ most_columns) where
   pub said_at : (j : ℕ) → j < length (columns line.tag)
-      → get_or (entries_of source line) j Missing ≡ entry_of source (get_or line.fields j no_field).said
+      → get_or (entries_of source line) j Missing ≡ entry_of source (get_or line.fields j no_field)
   said_at j h =
-      get_or-take (length (columns line.tag)) (map (λ (x : Field). entry_of source x.said) line.fields) j
+      get_or-take (length (columns line.tag)) (map (entry_of source) line.fields) j
       Missing h
       ∙ get_d_map (entry_of source) line.fields j
 
   pub length_entries : length (entries_of source line) ≡ length (columns line.tag)
   length_entries =
-      length-take-le (length (columns line.tag)) (map (λ (x : Field). entry_of source x.said) line.fields)
+      length-take-le (length (columns line.tag)) (map (entry_of source) line.fields)
       (omega (
         arith,
-        length_map (λ (x : Field). entry_of source x.said) line.fields,
+        length_map (entry_of source) line.fields,
         full,
         most_columns_lem line.tag,
       ))
@@ -219,7 +218,7 @@ module _ (source : List ℕ) (line : Line) (full : length line.fields ≡ most_c
 
     -- what field number j says
     abbrev said_of : ℕ → Said
-    said_of j = (get_or line.fields (column_of layout line.tag j) no_field).said
+    said_of j = (get_or line.fields (column_of layout line.tag j) no_field)
 
     field_at_lem : (j : ℕ) → j < length (columns line.tag) → get_or entries j Missing ≡ entry_of source (said_of j)
     unfolding entries_in

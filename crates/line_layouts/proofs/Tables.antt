@@ -60,11 +60,11 @@ count_sound_lem ones most flag e =
     }
 
 pub record Sane (c : Column) : Type 0 where
-  pub most : c.1 < 2 ^ 32
-  pub some : is_number c.0 ≡ false → 1 ≤ c.1
-  pub one : is_number c.0 ≡ false → is_name c.0 ≡ false → c.1 ≤ 1
-  pub short : is_number c.0 ≡ false → c.1 ≤ 255
-  pub empties : (c.2 || has_flag c.3) ≡ true
+  pub most : c.most < 2 ^ 32
+  pub some : is_number c.form ≡ false → 1 ≤ c.most
+  pub one : is_number c.form ≡ false → is_name c.form ≡ false → c.most ≤ 1
+  pub short : is_number c.form ≡ false → c.most ≤ 255
+  pub empties : (c.required || has_flag c.flag) ≡ true
 
 sane_form : (form : Form) (most : ℕ) (flag : Flag) → form_sound form most flag ≡ true
     → (most < 2 ^ 32) × (is_number form ≡ false → 1 ≤ most) × (is_number form ≡ false → is_name form ≡ false → most ≤ 1)
@@ -98,28 +98,28 @@ module _ (k : ℕ) (c : Column) (cs : List Column) (e : table_sound k (c ∷ cs)
   pub rest_sound : table_sound (k - 1) cs ≡ true
   rest_sound = both_right (column_sound k c) (table_sound (k - 1) cs) e
 
-  pub form_sound_lem : form_sound c.0 c.1 c.3 ≡ true
+  pub form_sound_lem : form_sound c.form c.most c.flag ≡ true
   form_sound_lem =
-      both_left (form_sound c.0 c.1 c.3) ((c.2 || has_flag c.3) && (leb 1 k || is_own c.3)) column_sound_lem
+      both_left (form_sound c.form c.most c.flag) ((c.required || has_flag c.flag) && (leb 1 k || is_own c.flag)) column_sound_lem
 
   -- what a record may leave out is missing by itself
-  pub left_out : (leb 1 k || is_own c.3) ≡ true
+  pub left_out : (leb 1 k || is_own c.flag) ≡ true
   left_out =
-      let empty = c.2 || has_flag c.3 in
-      let out = leb 1 k || is_own c.3 in
-      both_right empty out (both_right (form_sound c.0 c.1 c.3) (empty && out) column_sound_lem)
+      let empty = c.required || has_flag c.flag in
+      let out = leb 1 k || is_own c.flag in
+      both_right empty out (both_right (form_sound c.form c.most c.flag) (empty && out) column_sound_lem)
 
   pub sane : Sane c
   sane =
-      let empty = c.2 || has_flag c.3 in
-      let out = leb 1 k || is_own c.3 in
-      let f = sane_form c.0 c.1 c.3 form_sound_lem in
+      let empty = c.required || has_flag c.flag in
+      let out = leb 1 k || is_own c.flag in
+      let f = sane_form c.form c.most c.flag form_sound_lem in
       record {
         most = f.0;
         some = f.1;
         one = f.2;
         short = f.3;
-        empties = both_left empty out (both_right (form_sound c.0 c.1 c.3) (empty && out) column_sound_lem);
+        empties = both_left empty out (both_right (form_sound c.form c.most c.flag) (empty && out) column_sound_lem);
       }
 
 -- ---- the separator

@@ -11,7 +11,7 @@
 --   back        for each column its field in the text: the way back from `order`
 --   width       the bytes of a type in a record
 -- Assumes nothing.
-use Rattle.std.specs.Prelude.{ℕ, true, false, List, [], ◌∷◌}
+use Rattle.std.specs.Prelude.{ℕ, Bool, true, false, List, [], ◌∷◌}
 use Prim.Native.Char.{code}
 use Rattle.values.specs.Values.{most_head, most_bin}
 use Rattle.dates.specs.Dates.{last_time}
@@ -19,6 +19,7 @@ use Rattle.line_layouts.specs.declared.Tag.{Tag}
 use Rattle.line_layouts.specs.declared.Tag.TheVariants.{Pcr, Hbr, Sbr, Wir, Wrr}
 use Rattle.line_layouts.specs.declared.Form.{Form}
 use Rattle.line_layouts.specs.declared.Form.TheVariants.{U1, U2, U4, Time, C1, Cn}
+use Rattle.line_layouts.specs.declared.Flag.{Flag}
 use Rattle.line_layouts.specs.declared.Flag.TheVariants.{Never, Own, Beside}
 use Rattle.line_layouts.specs.declared.Column.{Column}
 
@@ -61,28 +62,31 @@ most_count = 4_294_967_295
 abbrev pub most_optional : ℕ
 most_optional = 4_294_967_294
 
+abbrev pub column : Form → ℕ → Bool → Flag → Column
+column form most required flag = record { form = form; most = most; required = required; flag = flag }
+
 -- head 0 to 254, site 0 to 255, parts, then retest, abort, good, functional. STDF head 255 is both empty, its site
 -- ignored
 abbrev pub pcr_columns : List Column
 pcr_columns =
-    (U1, most_head, false, Own) ∷
-    (U1, 255, false, Beside) ∷
-    (U4, most_count, true, Never) ∷
-    (U4, most_optional, false, Own) ∷
-    (U4, most_optional, false, Own) ∷
-    (U4, most_optional, false, Own) ∷
-    (U4, most_optional, false, Own) ∷
+    column U1 most_head false Own ∷
+    column U1 255 false Beside ∷
+    column U4 most_count true Never ∷
+    column U4 most_optional false Own ∷
+    column U4 most_optional false Own ∷
+    column U4 most_optional false Own ∷
+    column U4 most_optional false Own ∷
     []
 
 -- head, site, bin 0 to 32,767, count, then P/F by its first character, and a name of at most 255 bytes
 abbrev pub bin_columns : List Column
 bin_columns =
-    (U1, most_head, false, Own) ∷
-    (U1, 255, false, Beside) ∷
-    (U2, most_bin, true, Never) ∷
-    (U4, most_count, true, Never) ∷
-    (C1, 1, false, Own) ∷
-    (Cn, 255, false, Own) ∷
+    column U1 most_head false Own ∷
+    column U1 255 false Beside ∷
+    column U2 most_bin true Never ∷
+    column U4 most_count true Never ∷
+    column C1 1 false Own ∷
+    column Cn 255 false Own ∷
     []
 
 -- #103: site group 255 is missing, and so is time 0
@@ -95,30 +99,30 @@ most_time = last_time
 -- #103, WIR by STDF V4: head 0 to 255, site group, start time, wafer id
 abbrev pub wir_columns : List Column
 wir_columns =
-    (U1, 255, true, Never) ∷
-    (U1, most_group, false, Own) ∷
-    (Time, most_time, true, Own) ∷
-    (Cn, 255, false, Own) ∷
+    column U1 255 true Never ∷
+    column U1 most_group false Own ∷
+    column Time most_time true Own ∷
+    column Cn 255 false Own ∷
     []
 
 -- #103, WRR by STDF V4: head, site group, finish time, parts, then retest, abort, good, functional, and the ids of
 -- wafer, fab wafer, frame and mask and two descriptions
 abbrev pub wrr_columns : List Column
 wrr_columns =
-    (U1, 255, true, Never) ∷
-    (U1, most_group, false, Own) ∷
-    (Time, most_time, true, Own) ∷
-    (U4, most_count, true, Never) ∷
-    (U4, most_optional, false, Own) ∷
-    (U4, most_optional, false, Own) ∷
-    (U4, most_optional, false, Own) ∷
-    (U4, most_optional, false, Own) ∷
-    (Cn, 255, false, Own) ∷
-    (Cn, 255, false, Own) ∷
-    (Cn, 255, false, Own) ∷
-    (Cn, 255, false, Own) ∷
-    (Cn, 255, false, Own) ∷
-    (Cn, 255, false, Own) ∷
+    column U1 255 true Never ∷
+    column U1 most_group false Own ∷
+    column Time most_time true Own ∷
+    column U4 most_count true Never ∷
+    column U4 most_optional false Own ∷
+    column U4 most_optional false Own ∷
+    column U4 most_optional false Own ∷
+    column U4 most_optional false Own ∷
+    column Cn 255 false Own ∷
+    column Cn 255 false Own ∷
+    column Cn 255 false Own ∷
+    column Cn 255 false Own ∷
+    column Cn 255 false Own ∷
+    column Cn 255 false Own ∷
     []
 
 -- SBR is laid out as HBR
@@ -135,7 +139,7 @@ most_columns = 14
 
 -- what stands past a table's end
 abbrev pub no_column : Column
-no_column = (U1, 0, false, Never)
+no_column = column U1 0 false Never
 
 -- the fields before the bar
 abbrev pub bar : Tag → ℕ

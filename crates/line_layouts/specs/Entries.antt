@@ -13,7 +13,6 @@ use Rattle.values.specs.declared.Name.{Name}
 use Rattle.line_layouts.specs.declared.Tag.{Tag}
 use Rattle.line_layouts.specs.declared.Said.{Said}
 use Rattle.line_layouts.specs.declared.Said.TheVariants as said
-use Rattle.line_layouts.specs.declared.Field.{Field}
 use Rattle.line_layouts.specs.declared.Line.{Line}
 use Rattle.line_layouts.specs.Columns.{columns, most_columns}
 
@@ -37,8 +36,7 @@ entry_of source (said.Text name) = Text (named source name)
 
 -- a line of this code has room for the longest table
 abbrev pub entries_of : List ℕ → Line → List Entry
-entries_of source line = take (length (columns line.tag)) (map (λ (f : Field). entry_of source f.said)
-    line.fields)
+entries_of source line = take (length (columns line.tag)) (map (entry_of source) line.fields)
 
 abbrev pub meaning_of : List ℕ → Line → Meaning
 meaning_of source line = record { tag = line.tag; entries = entries_of source line }
@@ -48,21 +46,21 @@ Within source said.Missing = Unit {0}
 Within source (said.Number n) = Unit {0}
 Within source (said.Text name) = (name.at + name.len ≤ length source) × (name.len ≤ 255)
 
-abbrev pub no_field : Field
-no_field = record { said = said.Missing }
+abbrev pub no_field : Said
+no_field = said.Missing
 
 -- as many fields as the longest table has columns
-abbrev pub no_fields : List Field
+abbrev pub no_fields : List Said
 no_fields = replicate most_columns no_field
 
 -- fields past a table's columns are missing
-abbrev pub padded : List Field → List Field
+abbrev pub padded : List Said → List Said
 padded fields = fields ++ drop (length fields) no_fields
 
 -- so many fields; a name has at most 255 bytes, and all of them stand in the source
 pub record AllWithin (source : List ℕ) (line : Line) : Type 0 where
   pub full : length line.fields ≡ most_columns
-  pub within : (j : ℕ) → Within source (get_or line.fields j no_field).said
+  pub within : (j : ℕ) → Within source (get_or line.fields j no_field)
 
 -- field number j is one of the n that are laid out
 pub record Nth (source : List ℕ) (line : Line) (j n : ℕ) : Type 0 where

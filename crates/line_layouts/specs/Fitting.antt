@@ -64,7 +64,7 @@ form_fits form most flag (Text (b ∷ bs)) =
     not (is_number form) && (leb (length (b ∷ bs)) most && (is_name form || letter_fits (b ∷ bs)))
 
 abbrev pub entry_fits : Column → Entry → Bool
-entry_fits c e = form_fits c.0 c.1 c.3 e
+entry_fits c e = form_fits c.form c.most c.flag e
 
 abbrev pub entries_fit : List Column → List Entry → Bool
 entries_fit [] [] = true
@@ -83,7 +83,7 @@ agree false t = not t
 
 -- a field beside another is missing exactly where that one is; the first entry is the one before
 abbrev pub sits_one : Column → Entry → Entry → Bool
-sits_one c last e = not (is_beside c.3) || agree (is_none last) (is_none e)
+sits_one c last e = not (is_beside c.flag) || agree (is_none last) (is_none e)
 
 unfoldable pub sits : Entry → List Column → List Entry → Bool
 sits last [] es = true
@@ -97,7 +97,7 @@ Fitting m =
 -- ---- what a line must give
 
 abbrev pub given : Column → Entry → Bool
-given c Missing = not c.2
+given c Missing = not c.required
 given c (Number n) = true
 given c (Text bytes) = true
 
@@ -109,7 +109,7 @@ all_given (c ∷ cs) (e ∷ es) = given c e && all_given cs es
 
 -- #103, 21: a required time is 0, which is missing
 abbrev pub timed : Column → Entry → Bool
-timed c Missing = not (c.2 && is_time c.0)
+timed c Missing = not (c.required && is_time c.form)
 timed c (Number n) = true
 timed c (Text bytes) = true
 
@@ -142,7 +142,7 @@ form_sound Cn most flag = (leb 1 most && leb most 255) && is_own flag
 
 -- what text may leave empty can be missing, and so can what a record may leave out, by itself
 abbrev pub column_sound : ℕ → Column → Bool
-column_sound k c = form_sound c.0 c.1 c.3 && ((c.2 || has_flag c.3) && (leb 1 k || is_own c.3))
+column_sound k c = form_sound c.form c.most c.flag && ((c.required || has_flag c.flag) && (leb 1 k || is_own c.flag))
 
 abbrev pub table_sound : ℕ → List Column → Bool
 table_sound k [] = true

@@ -90,7 +90,7 @@ is_last (e ∷ es) = false
 unfoldable pub laid : Layout → List Column → List Entry → List ℕ
 laid layout [] es = []
 laid layout (c ∷ cs) [] = []
-laid layout (c ∷ cs) (e ∷ es) = field_bytes layout c.0 e (is_last es) ++ laid layout cs es
+laid layout (c ∷ cs) (e ∷ es) = field_bytes layout c.form e (is_last es) ++ laid layout cs es
 
 -- a line's fields go in the order of the text, a record's in its own
 abbrev pub in_order : {A : Type 0} → Layout → Tag → A → List A → List A
@@ -138,8 +138,8 @@ column_of (layout.Record ends) tag j = j
 unfoldable pub nth_bytes : Layout → List ℕ → Line → ℕ → ℕ → List ℕ
 nth_bytes layout source line j n =
     let i = column_of layout line.tag j in
-    field_bytes layout (get_or (columns line.tag) i no_column).0
-    (entry_of source (get_or line.fields i no_field).said) (eqb (j + 1) n)
+    field_bytes layout (get_or (columns line.tag) i no_column).form
+    (entry_of source (get_or line.fields i no_field)) (eqb (j + 1) n)
 
 -- what its fields say, in their order
 unfoldable pub entries_in : Layout → List ℕ → Line → List Entry

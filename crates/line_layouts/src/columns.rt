@@ -1,9 +1,7 @@
 // The tables of lines.
 ghost use Rattle.std.specs.Prelude.{◌≡◌, ◌≤◌, ◌<◌, length, get_or};
-ghost use Rattle.line_layouts.specs.Columns.{pcr_columns, bin_columns, wir_columns, wrr_columns};
-ghost use Rattle.line_layouts.specs.Columns.{type_of, sub_of, columns, most_columns, no_column, width, bar};
-ghost use Rattle.line_layouts.specs.Columns.{pcr_order, bin_order, wir_order, wrr_order, order};
-ghost use Rattle.line_layouts.specs.Columns.{pcr_back, bin_back, wir_back, wrr_back, back};
+ghost use Rattle.line_layouts.specs.Columns.{tag_text, type_of, sub_of, columns, most_columns, no_column, width, bar};
+ghost use Rattle.line_layouts.specs.Columns.{order, back};
 
 use super::{Column, Flag, Form, Tag};
 
@@ -13,65 +11,99 @@ pub const LINE_FEED: u8 = 10;
 
 pub const CARRIAGE_RETURN: u8 = 13;
 
-const MOST_COUNT: u32 = 4294967295;
+// The most columns that a line has.
+pub const MOST_COLUMNS: usize = 14;
 
-const MOST_OPTIONAL: u32 = 4294967294;
+const HEAD: Column = Column {
+    form: Form::U1,
+    most: 254,
+    required: false,
+    flag: Flag::Own,
+};
 
-const MOST_GROUP: u32 = 254;
+const SITE: Column = Column {
+    form: Form::U1,
+    most: 255,
+    required: false,
+    flag: Flag::Beside,
+};
 
-const MOST_TIME: u32 = 4294967295;
+const BIN: Column = Column {
+    form: Form::U2,
+    most: 32767,
+    required: true,
+    flag: Flag::Never,
+};
+
+const COUNT: Column = Column {
+    form: Form::U4,
+    most: 4294967295,
+    required: true,
+    flag: Flag::Never,
+};
+
+const OPTIONAL: Column = Column {
+    form: Form::U4,
+    most: 4294967294,
+    required: false,
+    flag: Flag::Own,
+};
+
+const PASS_FAIL: Column = Column {
+    form: Form::C1,
+    most: 1,
+    required: false,
+    flag: Flag::Own,
+};
+
+const NAME: Column = Column {
+    form: Form::Cn,
+    most: 255,
+    required: false,
+    flag: Flag::Own,
+};
+
+// A wafer's head may be 255.
+const WAFER_HEAD: Column = Column {
+    form: Form::U1,
+    most: 255,
+    required: true,
+    flag: Flag::Never,
+};
+
+const GROUP: Column = Column {
+    form: Form::U1,
+    most: 254,
+    required: false,
+    flag: Flag::Own,
+};
+
+const TIME: Column = Column {
+    form: Form::Time,
+    most: 4294967295,
+    required: true,
+    flag: Flag::Own,
+};
 
 // head, site, parts, then retest, abort, good, functional
-const PCR: [Column; 7] = [
-    Column(Form::U1, 254, false, Flag::Own),
-    Column(Form::U1, 255, false, Flag::Beside),
-    Column(Form::U4, MOST_COUNT, true, Flag::Never),
-    Column(Form::U4, MOST_OPTIONAL, false, Flag::Own),
-    Column(Form::U4, MOST_OPTIONAL, false, Flag::Own),
-    Column(Form::U4, MOST_OPTIONAL, false, Flag::Own),
-    Column(Form::U4, MOST_OPTIONAL, false, Flag::Own),
-];
+const PCR: [Column; 7] = [HEAD, SITE, COUNT, OPTIONAL, OPTIONAL, OPTIONAL, OPTIONAL];
 
 // head, site, bin, count, then P/F and name
-const BIN: [Column; 6] = [
-    Column(Form::U1, 254, false, Flag::Own),
-    Column(Form::U1, 255, false, Flag::Beside),
-    Column(Form::U2, 32767, true, Flag::Never),
-    Column(Form::U4, MOST_COUNT, true, Flag::Never),
-    Column(Form::C1, 1, false, Flag::Own),
-    Column(Form::Cn, 255, false, Flag::Own),
-];
+const HBR: [Column; 6] = [HEAD, SITE, BIN, COUNT, PASS_FAIL, NAME];
 
 // head, site group, start time, wafer id
-const WIR: [Column; 4] = [
-    Column(Form::U1, 255, true, Flag::Never),
-    Column(Form::U1, MOST_GROUP, false, Flag::Own),
-    Column(Form::Time, MOST_TIME, true, Flag::Own),
-    Column(Form::Cn, 255, false, Flag::Own),
-];
+const WIR: [Column; 4] = [WAFER_HEAD, GROUP, TIME, NAME];
 
 // head, site group, finish time, parts, then retest, abort, good, functional, four ids and two descriptions
 const WRR: [Column; 14] = [
-    Column(Form::U1, 255, true, Flag::Never),
-    Column(Form::U1, MOST_GROUP, false, Flag::Own),
-    Column(Form::Time, MOST_TIME, true, Flag::Own),
-    Column(Form::U4, MOST_COUNT, true, Flag::Never),
-    Column(Form::U4, MOST_OPTIONAL, false, Flag::Own),
-    Column(Form::U4, MOST_OPTIONAL, false, Flag::Own),
-    Column(Form::U4, MOST_OPTIONAL, false, Flag::Own),
-    Column(Form::U4, MOST_OPTIONAL, false, Flag::Own),
-    Column(Form::Cn, 255, false, Flag::Own),
-    Column(Form::Cn, 255, false, Flag::Own),
-    Column(Form::Cn, 255, false, Flag::Own),
-    Column(Form::Cn, 255, false, Flag::Own),
-    Column(Form::Cn, 255, false, Flag::Own),
-    Column(Form::Cn, 255, false, Flag::Own),
+    WAFER_HEAD, GROUP, TIME, COUNT, OPTIONAL, OPTIONAL, OPTIONAL, OPTIONAL, NAME, NAME, NAME, NAME,
+    NAME, NAME,
 ];
 
 // The columns of a line, in the order of the text.
 const PCR_ORDER: [usize; 7] = [0, 1, 2, 3, 4, 5, 6];
 
-const BIN_ORDER: [usize; 6] = [0, 1, 2, 3, 4, 5];
+const HBR_ORDER: [usize; 6] = [0, 1, 2, 3, 4, 5];
 
 const WIR_ORDER: [usize; 4] = [0, 2, 1, 3];
 
@@ -80,63 +112,36 @@ const WRR_ORDER: [usize; 14] = [0, 2, 3, 8, 1, 4, 5, 6, 7, 9, 10, 11, 12, 13];
 // For each column its field in the text.
 const PCR_BACK: [usize; 7] = [0, 1, 2, 3, 4, 5, 6];
 
-const BIN_BACK: [usize; 6] = [0, 1, 2, 3, 4, 5];
+const HBR_BACK: [usize; 6] = [0, 1, 2, 3, 4, 5];
 
 const WIR_BACK: [usize; 4] = [0, 2, 1, 3];
 
 const WRR_BACK: [usize; 14] = [0, 4, 1, 2, 5, 6, 7, 8, 3, 9, 10, 11, 12, 13];
 
-pub fn column_count(tag: Tag) -> usize
-    ensures { (result ≡ length (columns tag)) × (result ≤ most_columns) }
+// The columns of a record, in its order.
+pub fn columns(tag: Tag) -> &'static [Column]
+    ensures all { result.now ≡ columns tag }
+    ensures few { length result.now ≤ most_columns }
 {
     match tag {
-        Tag::Pcr => 7,
-        Tag::Hbr => 6,
-        Tag::Sbr => 6,
-        Tag::Wir => 4,
-        Tag::Wrr => 14,
+        Tag::Pcr => &PCR,
+        Tag::Hbr | Tag::Sbr => &HBR,
+        Tag::Wir => &WIR,
+        Tag::Wrr => &WRR,
     }
 }
 
-fn pcr_column(j: usize) -> Column
-    requires { j < 7 }
-    ensures { result ≡ get_or pcr_columns j no_column }
+pub fn column_count(tag: Tag) -> usize
+    ensures { (result ≡ length (columns tag)) × (result ≤ most_columns) }
 {
-    PCR[j]
-}
-
-fn bin_column(j: usize) -> Column
-    requires { j < 6 }
-    ensures { result ≡ get_or bin_columns j no_column }
-{
-    BIN[j]
-}
-
-fn wir_column(j: usize) -> Column
-    requires { j < 4 }
-    ensures { result ≡ get_or wir_columns j no_column }
-{
-    WIR[j]
-}
-
-fn wrr_column(j: usize) -> Column
-    requires { j < 14 }
-    ensures { result ≡ get_or wrr_columns j no_column }
-{
-    WRR[j]
+    columns(tag).len()
 }
 
 pub fn column_at(tag: Tag, j: usize) -> Column
     requires { j < length (columns tag) }
     ensures { result ≡ get_or (columns tag) j no_column }
 {
-    match tag {
-        Tag::Pcr => pcr_column(j),
-        Tag::Hbr => bin_column(j),
-        Tag::Sbr => bin_column(j),
-        Tag::Wir => wir_column(j),
-        Tag::Wrr => wrr_column(j),
-    }
+    columns(tag)[j]
 }
 
 // How many fields a record must have.
@@ -144,40 +149,9 @@ pub fn bar_of(tag: Tag) -> usize
     ensures { result ≡ bar tag }
 {
     match tag {
-        Tag::Pcr => 3,
-        Tag::Hbr => 4,
-        Tag::Sbr => 4,
-        Tag::Wir => 3,
-        Tag::Wrr => 4,
+        Tag::Pcr | Tag::Wir => 3,
+        Tag::Hbr | Tag::Sbr | Tag::Wrr => 4,
     }
-}
-
-fn pcr_order(j: usize) -> usize
-    requires { j < 7 }
-    ensures { result ≡ get_or pcr_order j 0 }
-{
-    PCR_ORDER[j]
-}
-
-fn bin_order(j: usize) -> usize
-    requires { j < 6 }
-    ensures { result ≡ get_or bin_order j 0 }
-{
-    BIN_ORDER[j]
-}
-
-fn wir_order(j: usize) -> usize
-    requires { j < 4 }
-    ensures { result ≡ get_or wir_order j 0 }
-{
-    WIR_ORDER[j]
-}
-
-fn wrr_order(j: usize) -> usize
-    requires { j < 14 }
-    ensures { result ≡ get_or wrr_order j 0 }
-{
-    WRR_ORDER[j]
 }
 
 // The column of field number j of a line.
@@ -186,40 +160,11 @@ pub fn order_at(tag: Tag, j: usize) -> usize
     ensures { result ≡ get_or (order tag) j 0 }
 {
     match tag {
-        Tag::Pcr => pcr_order(j),
-        Tag::Hbr => bin_order(j),
-        Tag::Sbr => bin_order(j),
-        Tag::Wir => wir_order(j),
-        Tag::Wrr => wrr_order(j),
+        Tag::Pcr => PCR_ORDER[j],
+        Tag::Hbr | Tag::Sbr => HBR_ORDER[j],
+        Tag::Wir => WIR_ORDER[j],
+        Tag::Wrr => WRR_ORDER[j],
     }
-}
-
-fn pcr_back(j: usize) -> usize
-    requires { j < 7 }
-    ensures { result ≡ get_or pcr_back j 0 }
-{
-    PCR_BACK[j]
-}
-
-fn bin_back(j: usize) -> usize
-    requires { j < 6 }
-    ensures { result ≡ get_or bin_back j 0 }
-{
-    BIN_BACK[j]
-}
-
-fn wir_back(j: usize) -> usize
-    requires { j < 4 }
-    ensures { result ≡ get_or wir_back j 0 }
-{
-    WIR_BACK[j]
-}
-
-fn wrr_back(j: usize) -> usize
-    requires { j < 14 }
-    ensures { result ≡ get_or wrr_back j 0 }
-{
-    WRR_BACK[j]
 }
 
 // The field of a line that column j is.
@@ -228,11 +173,25 @@ pub fn back_at(tag: Tag, j: usize) -> usize
     ensures { result ≡ get_or (back tag) j 0 }
 {
     match tag {
-        Tag::Pcr => pcr_back(j),
-        Tag::Hbr => bin_back(j),
-        Tag::Sbr => bin_back(j),
-        Tag::Wir => wir_back(j),
-        Tag::Wrr => wrr_back(j),
+        Tag::Pcr => PCR_BACK[j],
+        Tag::Hbr | Tag::Sbr => HBR_BACK[j],
+        Tag::Wir => WIR_BACK[j],
+        Tag::Wrr => WRR_BACK[j],
+    }
+}
+
+pub const TAGS: [Tag; 5] = [Tag::Pcr, Tag::Hbr, Tag::Sbr, Tag::Wir, Tag::Wrr];
+
+// How a line begins.
+pub fn tag_text(tag: Tag) -> &'static [u8]
+    ensures { result.now ≡ tag_text tag }
+{
+    match tag {
+        Tag::Pcr => b"PCR:",
+        Tag::Hbr => b"HBR:",
+        Tag::Sbr => b"SBR:",
+        Tag::Wir => b"WIR:",
+        Tag::Wrr => b"WRR:",
     }
 }
 
@@ -240,12 +199,9 @@ pub fn width_of(form: Form) -> usize
     ensures { (result ≡ width form) × (result ≤ 4) }
 {
     match form {
-        Form::U1 => 1,
+        Form::U1 | Form::C1 | Form::Cn => 1,
         Form::U2 => 2,
-        Form::U4 => 4,
-        Form::Time => 4,
-        Form::C1 => 1,
-        Form::Cn => 1,
+        Form::U4 | Form::Time => 4,
     }
 }
 
@@ -254,11 +210,8 @@ pub fn type_of(tag: Tag) -> u8
     ensures { result ≡ type_of tag }
 {
     match tag {
-        Tag::Pcr => 1,
-        Tag::Hbr => 1,
-        Tag::Sbr => 1,
-        Tag::Wir => 2,
-        Tag::Wrr => 2,
+        Tag::Pcr | Tag::Hbr | Tag::Sbr => 1,
+        Tag::Wir | Tag::Wrr => 2,
     }
 }
 

@@ -8,14 +8,7 @@ use super::{Flag, Form};
 pub fn is_time(form: Form) -> bool
     ensures { result ≡ is_time form }
 {
-    match form {
-        Form::U1 => false,
-        Form::U2 => false,
-        Form::U4 => false,
-        Form::Time => true,
-        Form::C1 => false,
-        Form::Cn => false,
-    }
+    matches!(form, Form::Time)
 }
 
 pub fn missing_value(form: Form) -> u32
@@ -34,45 +27,23 @@ pub fn missing_value(form: Form) -> u32
 pub fn is_name(form: Form) -> bool
     ensures { result ≡ is_name form }
 {
-    match form {
-        Form::U1 => false,
-        Form::U2 => false,
-        Form::U4 => false,
-        Form::Time => false,
-        Form::C1 => false,
-        Form::Cn => true,
-    }
+    matches!(form, Form::Cn)
 }
 
 pub fn is_number(form: Form) -> bool
     ensures { result ≡ is_number form }
 {
-    match form {
-        Form::U1 => true,
-        Form::U2 => true,
-        Form::U4 => true,
-        Form::Time => true,
-        Form::C1 => false,
-        Form::Cn => false,
-    }
+    !matches!(form, Form::C1 | Form::Cn)
 }
 
 pub fn is_own(flag: Flag) -> bool
     ensures { result ≡ is_own flag }
 {
-    match flag {
-        Flag::Never => false,
-        Flag::Own => true,
-        Flag::Beside => false,
-    }
+    matches!(flag, Flag::Own)
 }
 
 pub fn is_beside(flag: Flag) -> bool
     ensures { result ≡ is_beside flag }
 {
-    match flag {
-        Flag::Never => false,
-        Flag::Own => false,
-        Flag::Beside => true,
-    }
+    matches!(flag, Flag::Beside)
 }

@@ -6,7 +6,7 @@ pub mod forms;
 pub mod judging;
 pub mod names;
 
-use answers::Answer;
+use columns::MOST_COLUMNS;
 use numbers::Order;
 use values::Name;
 
@@ -43,7 +43,12 @@ pub enum Flag {
 // A field's type, the most that its text may hold, whether text must give it, and how a record leaves it out. The most
 // is for a number the greatest value, for P/F and a name the bytes that are kept.
 #[derive(Clone, Copy)]
-pub struct Column(pub Form, pub u32, pub bool, pub Flag);
+pub struct Column {
+    pub form: Form,
+    pub most: u32,
+    pub required: bool,
+    pub flag: Flag,
+}
 
 // What a field says: P/F and a name are text, told by its place and its length in a source.
 #[derive(Clone, Copy)]
@@ -53,16 +58,11 @@ pub enum Said {
     Text(Name),
 }
 
-#[derive(Clone, Copy)]
-pub struct Field {
-    pub said: Said,
-}
-
 // A line or a record, taken apart: fields past the tag's columns are missing.
 #[derive(Clone, Copy)]
 pub struct Line {
     pub tag: Tag,
-    pub fields: [Field; 14],
+    pub fields: [Said; MOST_COLUMNS],
 }
 
 // How fields are laid out: as the text of a line, with a byte between them, or as a record in a byte order.
@@ -70,18 +70,4 @@ pub struct Line {
 pub enum Layout {
     Text(u8),
     Record(Order),
-}
-
-// Whether something stands against a line.
-#[derive(Clone, Copy)]
-pub enum Fault {
-    None,
-    Found(Answer),
-}
-
-// A line or a record taken apart, or the answer that it is refused with; then the line has nothing to say.
-#[derive(Clone, Copy)]
-pub struct Judged {
-    pub fault: Fault,
-    pub line: Line,
 }

@@ -34,7 +34,7 @@ use Rattle.line_layouts.specs.declared.Form.TheVariants.{U1, U2, U4, Time, C1, C
 use Rattle.line_layouts.specs.declared.Flag.{Flag}
 use Rattle.line_layouts.specs.declared.Flag.TheVariants.{Never, Own, Beside}
 use Rattle.line_layouts.specs.declared.Column.{Column}
-use Rattle.line_layouts.specs.Columns.{pcr_columns, bin_columns, wir_columns, wrr_columns, width}
+use Rattle.line_layouts.specs.Columns.{column, pcr_columns, bin_columns, wir_columns, wrr_columns, width}
 use Rattle.line_layouts.specs.Entries.{Entry, Missing, Number, Text}
 use Rattle.line_layouts.specs.Layouts.{missing_value}
 use Rattle.line_layouts.specs.Fitting.{is_own}
@@ -68,12 +68,12 @@ shuffle false v e w = refl
 module _ (ends : Order) where
   -- whether the value of the field that bytes begin with is one
   abbrev value_fit : Column → List ℕ → Bool
-  value_fit c s = is_fit (value_said ends c.0 c.1 c.3 (take (size c.0 s) s))
+  value_fit c s = is_fit (value_said ends c.form c.most c.flag (take (size c.form s) s))
 
   fit_field : (c : Column) (s : List ℕ)
-      → is_fit (field_said ends c s) ≡ (leb (size c.0 s) (length s) && value_fit c s)
-  fit_field c s = go (leb (size c.0 s) (length s))
-      (value_said ends c.0 c.1 c.3 (take (size c.0 s) s))
+      → is_fit (field_said ends c s) ≡ (leb (size c.form s) (length s) && value_fit c s)
+  fit_field c s = go (leb (size c.form s) (length s))
+      (value_said ends c.form c.most c.flag (take (size c.form s) s))
     where
       go : (t : Bool) (r : Fit Entry) → is_fit (Misfit unless t then r) ≡ (t && is_fit r)
       go true r = refl
@@ -81,11 +81,11 @@ module _ (ends : Order) where
 
   fit_on : (k : ℕ) (c : Column) (cs : List Column) (s : List ℕ) → 1 ≤ length s
       → is_fit (walked k ends (c ∷ cs) s)
-      ≡ ((leb (size c.0 s) (length s) && value_fit c s) && is_fit (walked (k - 1) ends cs (drop (size c.0 s) s)))
+      ≡ ((leb (size c.form s) (length s) && value_fit c s) && is_fit (walked (k - 1) ends cs (drop (size c.form s) s)))
   fit_on k c cs s h =
       rw (
         walked_on ends c cs k s h,
-        fit_put (field_said ends c s) (walked (k - 1) ends cs (drop (size c.0 s) s)),
+        fit_put (field_said ends c s) (walked (k - 1) ends cs (drop (size c.form s) s)),
         fit_field c s,
       )
 
@@ -118,13 +118,13 @@ module _ (ends : Order) where
   size_some Cn s = omega arith
 
   abbrev types_for : List Column → List FieldType
-  types_for cs = map (λ (c : Column). type_for c.0) cs
+  types_for cs = map (λ (c : Column). type_for c.form) cs
 
   abbrev values_fit : List Column → List ℕ → Bool
   values_fit [] s = true
   values_fit (c ∷ cs) [] = true
   values_fit (c ∷ cs) (b ∷ bs) =
-      value_fit c (b ∷ bs) && values_fit cs (drop (size c.0 (b ∷ bs)) (b ∷ bs))
+      value_fit c (b ∷ bs) && values_fit cs (drop (size c.form (b ∷ bs)) (b ∷ bs))
 
   walked_empty : (cs : List Column) → is_fit (walked 0 ends cs []) ≡ true
   unfolding walked
@@ -139,11 +139,11 @@ module _ (ends : Order) where
   optional_fit (c ∷ cs) [] = walked_empty (c ∷ cs)
   optional_fit (c ∷ cs) (b ∷ bs) =
       let s = b ∷ bs in
-      let rest = drop (size c.0 s) s in
+      let rest = drop (size c.form s) s in
       let w = values_fit cs rest in
       fit_on 0 c cs s (omega arith)
-      ∙ rw (optional_fit cs rest, size_is c.0 s)
-      (shuffle (leb (size c.0 s) (length s)) (value_fit c s) (ends_among ends (types_for cs) rest) w)
+      ∙ rw (optional_fit cs rest, size_is c.form s)
+      (shuffle (leb (size c.form s) (length s)) (value_fit c s) (ends_among ends (types_for cs) rest) w)
 
   -- bytes for one field, then for the next
   fold : (w m : ℕ) (s : List ℕ) (t : Bool)
@@ -173,18 +173,18 @@ module _ (ends : Order) where
   table_fit (suc k) [] [] = refl
   table_fit (suc k) [] (b ∷ bs) = rw (le-leb 0 (length (b ∷ bs)) (omega arith))
   table_fit (suc k) (c ∷ cs) [] =
-      let w = fields.size ends (type_for c.0) [] in
+      let w = fields.size ends (type_for c.form) [] in
       let m = fields.sizes ends (types_for (take k cs)) (drop w []) in
-      rw (lt-leb (w + m) 0 (omega (arith, size_is c.0 [], size_some c.0 [])))
+      rw (lt-leb (w + m) 0 (omega (arith, size_is c.form [], size_some c.form [])))
   table_fit (suc k) (c ∷ cs) (b ∷ bs) =
       let s = b ∷ bs in
-      let w = size c.0 s in
+      let w = size c.form s in
       let rest = drop w s in
       let m = fields.sizes ends (types_for (take k cs)) rest in
       let e = ends_among ends (types_for (drop k cs)) (drop m rest) in
       let less : suc k - 1 ≡ k = omega arith in
       fit_on (suc k) c cs s (omega arith)
-      ∙ rw (less, table_fit k cs rest, size_is c.0 s)
+      ∙ rw (less, table_fit k cs rest, size_is c.form s)
       (shuffle (leb w (length s)) (value_fit c s) (leb m (length rest) && e) (values_fit cs rest)
       ∙ ap (λ (x : Bool). x && (value_fit c s && values_fit cs rest))
       (fold w m s e ∙ ap (λ (l : List ℕ). leb (w + m) (length s) && ends_among ends (types_for (drop k cs)) l)
@@ -267,23 +267,23 @@ module _ (ends : Order) where
       ))
 
   abbrev any_in : Column → Bool
-  any_in c = any_fits c.0 c.1 c.3
+  any_in c = any_fits c.form c.most c.flag
 
   values_none : (cs : List Column) → values_fit cs [] ≡ true
   values_none [] = refl
   values_none (c ∷ cs) = refl
 
   values_any : (c : Column) (cs : List Column) (s : List ℕ) → Bytes s → any_in c ≡ true
-      → values_fit (c ∷ cs) s ≡ values_fit cs (drop (size c.0 s) s)
+      → values_fit (c ∷ cs) s ≡ values_fit cs (drop (size c.form s) s)
   values_any c cs [] bytes all =
-      rw (drop-nil (size c.0 [])) (sym (values_none cs))
-  values_any c cs (b ∷ bs) bytes all = rw (any_fit c.0 c.1 c.3 (b ∷ bs) bytes all)
+      rw (drop-nil (size c.form [])) (sym (values_none cs))
+  values_any c cs (b ∷ bs) bytes all = rw (any_fit c.form c.most c.flag (b ∷ bs) bytes all)
 
   all_any : (cs : List Column) (s : List ℕ) → Bytes s → each any_in cs ≡ true → values_fit cs s ≡ true
   all_any [] s bytes all = refl
   all_any (c ∷ cs) s bytes all =
       values_any c cs s bytes (both_left (any_in c) (each any_in cs) all)
-      ∙ all_any cs (drop (size c.0 s) s) (bytes_drop (size c.0 s) s bytes)
+      ∙ all_any cs (drop (size c.form s) s) (bytes_drop (size c.form s) s bytes)
       (both_right (any_in c) (each any_in cs) all)
 
   and_true : (t : Bool) → (t && true) ≡ t
@@ -333,7 +333,7 @@ module _ (ends : Order) where
 
   -- a field that is there
   values_on : (c : Column) (cs : List Column) (s : List ℕ) → 1 ≤ length s
-      → values_fit (c ∷ cs) s ≡ (value_fit c s && values_fit cs (drop (size c.0 s) s))
+      → values_fit (c ∷ cs) s ≡ (value_fit c s && values_fit cs (drop (size c.form s) s))
   values_on c cs [] h = absurd (omega arith)
   values_on c cs (b ∷ bs) h = refl
 
@@ -344,13 +344,13 @@ module _ (ends : Order) where
       let b4 = drop 4 b in
       let number_is : number ends (take 2 b2) ≡ number ends (front 2 2 b) =
       sym (front_at ends 2 2 b (omega arith)) ∙ ap (number ends) (front_part 2 2 b) in
-      values_any (U1, 254, false, Own) (drop 1 bin_columns) b bytes refl
-      ∙ values_any (U1, 255, false, Beside) (drop 2 bin_columns) (drop 1 b) (bytes_drop 1 b bytes) refl
+      values_any (column U1 254 false Own) (drop 1 bin_columns) b bytes refl
+      ∙ values_any (column U1 255 false Beside) (drop 2 bin_columns) (drop 1 b) (bytes_drop 1 b bytes) refl
       ∙ ap (values_fit (drop 2 bin_columns)) (drop-drop 1 1 b)
-      ∙ values_on (U2, 32_767, true, Never) (drop 3 bin_columns) b2 (omega (arith, length-drop 2 b))
+      ∙ values_on (column U2 32_767 true Never) (drop 3 bin_columns) b2 (omega (arith, length-drop 2 b))
       ∙ rw (bin_value (number ends (take 2 b2)), number_is, drop-drop 2 2 b)
       (ap (λ (x : Bool). leb (number ends (front 2 2 b)) 32_767 && x)
-      (values_any (U4, 4_294_967_295, true, Never) (drop 4 bin_columns) b4 (bytes_drop 4 b bytes) refl
+      (values_any (column U4 4_294_967_295 true Never) (drop 4 bin_columns) b4 (bytes_drop 4 b bytes) refl
       ∙ ap (values_fit (drop 4 bin_columns)) (drop-drop 4 4 b) ∙ tail_fit b (drop 8 b) bytes refl))
 
   bin_fit : (b : List ℕ) → Bytes b → is_fit (walked 4 ends bin_columns b) ≡ bin_body_fits ends b

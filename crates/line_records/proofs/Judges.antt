@@ -11,7 +11,7 @@ use Rattle.numbers.specs.declared.Order.{Order}
 use Rattle.kinds.specs.Kinds.{kind_of}
 use Rattle.frames.specs.Frames.{rec_typ, rec_sub, body, is_record}
 use Rattle.line_layouts.specs.declared.Tag.{Tag}
-use Rattle.line_layouts.specs.declared.Field.{Field}
+use Rattle.line_layouts.specs.declared.Said.{Said}
 use Rattle.line_layouts.specs.declared.Column.{Column}
 use Rattle.line_layouts.specs.Columns.{columns, bar, most_columns, no_column}
 use Rattle.line_layouts.specs.Entries.{Entry, Meaning, padded}
@@ -46,7 +46,7 @@ says_record ends s m e = go (is_record ends s) refl
         absurd (omega arith)
 
 -- a body that fits: its fields say what it means
-taken_said : (ends : Order) (tag : Tag) (s : List ℕ) (fields : List Field) (n : ℕ) → n ≡ length (columns tag)
+taken_said : (ends : Order) (tag : Tag) (s : List ℕ) (fields : List Said) (n : ℕ) → n ≡ length (columns tag)
     → length fields ≡ most_columns → Withins s fields → meant ends tag s ≡ Fits (map (says s) (take n fields))
     → Taken s (body_means tag (meant ends tag s)) (saying (record { tag = tag; fields = fields }))
 taken_said ends tag s fields n all full within is =
@@ -54,11 +54,11 @@ taken_said ends tag s fields n all full within is =
     rw (← all) (map_take (says s) n fields) in
     record {
       means = rw is (ap (λ (es : List Entry). Says (record { tag = tag; entries = es })) said);
-      there = λ e. record { full = full; within = within };
+      there = record { full = full; within = within };
     }
 
 -- .. and they are those of the line
-pub held_said : (ends : Order) (tag : Tag) (s : List ℕ) (fields : List Field) (n : ℕ) → n ≡ length (columns tag)
+pub held_said : (ends : Order) (tag : Tag) (s : List ℕ) (fields : List Said) (n : ℕ) → n ≡ length (columns tag)
     → length fields ≡ most_columns → Withins s fields → meant ends tag s ≡ Fits (map (says s) (take n fields))
     → fields ≡ padded (fields_from ends (columns tag) s 0 true)
     → Held s (line_at ends tag s) (body_means tag (meant ends tag s)) (saying (record { tag = tag; fields = fields }))
@@ -66,7 +66,7 @@ unfolding line_at
 held_said ends tag s fields n all full within is same =
     record {
       taken = taken_said ends tag s fields n all full within is;
-      is = rw is (ap (λ (l : List Field). saying (record { tag = tag; fields = l })) same);
+      is = rw is (ap (λ (l : List Said). saying (record { tag = tag; fields = l })) same);
     }
 
 pub judged_once : JudgedOnce
@@ -74,11 +74,11 @@ judged_once ends s o o' p q = p.is ∙ sym q.is
 
 -- text of a column is short enough for a count byte
 pub short_column : (tag : Tag) (j : ℕ) → j < length (columns tag)
-    → is_number (get_or (columns tag) j no_column).0 ≡ false → (get_or (columns tag) j no_column).1 ≤ 255
+    → is_number (get_or (columns tag) j no_column).form ≡ false → (get_or (columns tag) j no_column).most ≤ 255
 short_column tag j h = go (bar tag) (columns tag) j (sound tag) h
   where
     go : (k : ℕ) (cs : List Column) (j : ℕ) → table_sound k cs ≡ true → j < length cs
-        → is_number (get_or cs j no_column).0 ≡ false → (get_or cs j no_column).1 ≤ 255
+        → is_number (get_or cs j no_column).form ≡ false → (get_or cs j no_column).most ≤ 255
     go k [] j ok h = absurd (omega arith)
     go k (c ∷ cs) zero ok h = (sane k c cs ok).short
     go k (c ∷ cs) (suc j) ok h = go (k - 1) cs j (rest_sound k c cs ok) (omega arith)

@@ -1,6 +1,7 @@
 -- What the walk of this code needs: a field read at its place says what the definition says, one step, and the loop.
 -- Assumes nothing.
 use Rattle.std.specs.Prelude.{Option, Some, None}
+use mathlib.Core.Logic.{◌⊎◌, inl, inr}
 use mathlib.Core.Path.{◌≡◌, refl, ap, sym, ◌∙◌}
 use mathlib.Core.Bool.{Bool, true, false, cond, ◌&&◌}
 use mathlib.Core.List.{List, [], ◌∷◌, ◌++◌, append-nil, map}
@@ -9,7 +10,7 @@ use Prim.Native.Char.{code}
 use native.Mathlib.Nat.{add-zero}
 use native.Mathlib.Numerals.{add-one}
 use native.Mathlib.Omega.{arith}
-use borrow.Author.Tests.{leb-true, leb-false, le-leb, lt-leb, lt-ltb, eq-eqb, ne_eqb}
+use borrow.Author.Tests.{leb-true, leb-false, le-leb, lt-leb, lt-ltb, ne_eqb}
 use lib.Dec.{eqb, leb}
 use lib.ListN.{length, get_or, take, drop, set, length-drop, length-take, drop_of_length-le}
 use lib.Seq.{drop-cons, drop-drop, take-nil, get_or-drop, take_all}
@@ -23,7 +24,6 @@ use Rattle.line_layouts.specs.declared.Flag.{Flag}
 use Rattle.line_layouts.specs.declared.Column.{Column}
 use Rattle.line_layouts.specs.declared.Said.{Said}
 use Rattle.line_layouts.specs.declared.Said.TheVariants as said
-use Rattle.line_layouts.specs.declared.Field.{Field}
 use Rattle.line_layouts.specs.Columns.{no_column, width}
 use Rattle.line_layouts.specs.Entries.{Entry, Missing, Number, Text, entry_of, Within, is_missing}
 use Rattle.line_layouts.specs.Layouts.{is_name}
@@ -110,17 +110,17 @@ module _ (ends : Order) (s : List ℕ) (at most : ℕ) (flag : Flag) where
 -- the field at a place says what the definition says
 field_at_lem : (ends : Order) (s : List ℕ) (at : ℕ) (c : Column) → at ≤ length s
     → saying s (field_at ends c s at) ≡ field_said ends c (drop at s)
-field_at_lem ends s at c h = go (leb (at + size c.0 (drop at s)) (length s)) refl
+field_at_lem ends s at c h = go (leb (at + size c.form (drop at s)) (length s)) refl
   where
-    go : (t : Bool) → leb (at + size c.0 (drop at s)) (length s) ≡ t
+    go : (t : Bool) → leb (at + size c.form (drop at s)) (length s) ≡ t
         → saying s (field_at ends c s at) ≡ field_said ends c (drop at s)
     go true f =
-        let fits = leb-true (at + size c.0 (drop at s)) (length s) f in
-        let here = le-leb (size c.0 (drop at s)) (length (drop at s)) (omega (arith, length-drop at s)) in
-        rw (f, here) (value_at_lem ends s at c.1 c.3 c.0 fits)
+        let fits = leb-true (at + size c.form (drop at s)) (length s) f in
+        let here = le-leb (size c.form (drop at s)) (length (drop at s)) (omega (arith, length-drop at s)) in
+        rw (f, here) (value_at_lem ends s at c.most c.flag c.form fits)
     go false f =
-        let long = leb-false (at + size c.0 (drop at s)) (length s) f in
-        let here = lt-leb (size c.0 (drop at s)) (length (drop at s)) (omega (arith, length-drop at s)) in
+        let long = leb-false (at + size c.form (drop at s)) (length s) f in
+        let here = lt-leb (size c.form (drop at s)) (length (drop at s)) (omega (arith, length-drop at s)) in
         rw (f, here)
 
 -- ---- each reader, at a place
@@ -135,34 +135,34 @@ value_number ends Time most flag s at e = refl
 value_number ends C1 most flag s at e = false_true e
 value_number ends Cn most flag s at e = false_true e
 
-module _ (ends : Order) (c : Column) (s : List ℕ) (at : ℕ) (number : is_number c.0 ≡ true) where
-  pub number_short : length s < at + width c.0 → field_at ends c s at ≡ Misfit
+module _ (ends : Order) (c : Column) (s : List ℕ) (at : ℕ) (number : is_number c.form ≡ true) where
+  pub number_short : length s < at + width c.form → field_at ends c s at ≡ Misfit
   number_short h =
-      rw (size_number c.0 (drop at s) number, lt-leb (at + width c.0) (length s) h)
+      rw (size_number c.form (drop at s) number, lt-leb (at + width c.form) (length s) h)
 
-  module _ (fits : at + width c.0 ≤ length s) where
-    number_here : field_at ends c s at ≡ number_at c.0 c.1 c.3 (number_in ends c.0 s at)
+  module _ (fits : at + width c.form ≤ length s) where
+    number_here : field_at ends c s at ≡ number_at c.form c.most c.flag (number_in ends c.form s at)
     number_here =
-        rw (size_number c.0 (drop at s) number, le-leb (at + width c.0) (length s) fits)
-        (value_number ends c.0 c.1 c.3 s at number)
+        rw (size_number c.form (drop at s) number, le-leb (at + width c.form) (length s) fits)
+        (value_number ends c.form c.most c.flag s at number)
 
-    module _ (n : ℕ) (is : n ≡ number_in ends c.0 s at) where
-      pub number_missing : is_flag c.0 c.3 n ≡ true → field_at ends c s at ≡ Fits said.Missing
+    module _ (n : ℕ) (is : n ≡ number_in ends c.form s at) where
+      pub number_missing : is_flag c.form c.flag n ≡ true → field_at ends c s at ≡ Fits said.Missing
       number_missing f = number_here ∙ rw (← is, f)
 
-      module _ (f : is_flag c.0 c.3 n ≡ false) where
-        pub number_value : n ≤ c.1 → field_at ends c s at ≡ Fits (said.Number n)
-        number_value h = number_here ∙ rw (← is, f, le-leb n c.1 h)
+      module _ (f : is_flag c.form c.flag n ≡ false) where
+        pub number_value : n ≤ c.most → field_at ends c s at ≡ Fits (said.Number n)
+        number_value h = number_here ∙ rw (← is, f, le-leb n c.most h)
 
-        pub number_large : c.1 < n → field_at ends c s at ≡ Misfit
-        number_large h = number_here ∙ rw (← is, f, lt-leb n c.1 h)
+        pub number_large : c.most < n → field_at ends c s at ≡ Misfit
+        number_large h = number_here ∙ rw (← is, f, lt-leb n c.most h)
 
 module _ (s : List ℕ) (at b : ℕ) (is : b ≡ get_or s at 0) where
   first : get_or (drop at s) 0 0 ≡ b
   first = get_or-drop at s 0 0 ∙ rw (add-zero at) (sym is)
 
-  module _ (here : at < length s) (ends : Order) (c : Column) (letter : c.0 ≡ C1) where
-    pub letter_size : at + 1 ≡ at + size c.0 (drop at s)
+  module _ (here : at < length s) (ends : Order) (c : Column) (letter : c.form ≡ C1) where
+    pub letter_size : at + 1 ≡ at + size c.form (drop at s)
     unfolding size
     letter_size = rw letter
 
@@ -171,28 +171,23 @@ module _ (s : List ℕ) (at b : ℕ) (is : b ≡ get_or s at 0) where
     letter_here = rw (letter, le-leb (at + 1) (length s) (omega arith), first)
 
     pub letter_missing : b ≡ code " " → field_at ends c s at ≡ Fits said.Missing
-    letter_missing e = letter_here ∙ rw (eq-eqb b (code " ") e)
+    letter_missing e = letter_here ∙ rw e
 
-    module _ (some : b ≡ code " " → ⊥) where
-      pub letter_pass : b ≡ code "P" → field_at ends c s at ≡ Fits (said.Text (record { at = at; len = 1 }))
-      letter_pass e = letter_here ∙ rw (ne_eqb b (code " ") some, eq-eqb b (code "P") e)
+    pub letter_text : (b ≡ code "F") ⊎ (b ≡ code "P") → field_at ends c s at ≡ Fits (said.Text (record { at = at; len = 1 }))
+    letter_text (inl e) = letter_here ∙ rw e
+    letter_text (inr e) = letter_here ∙ rw e
 
-      module _ (pass : b ≡ code "P" → ⊥) where
-        pub letter_fail : b ≡ code "F" → field_at ends c s at ≡ Fits (said.Text (record { at = at; len = 1 }))
-        letter_fail e =
-            letter_here ∙ rw (ne_eqb b (code " ") some, ne_eqb b (code "P") pass, eq-eqb b (code "F") e)
+    pub letter_other : (b ≡ code " " → ⊥) → (b ≡ code "P" → ⊥) → (b ≡ code "F" → ⊥) → field_at ends c s at ≡ Misfit
+    letter_other none pass fail =
+        letter_here ∙ rw (ne_eqb b (code " ") none, ne_eqb b (code "P") pass, ne_eqb b (code "F") fail)
 
-        pub letter_other : (b ≡ code "F" → ⊥) → field_at ends c s at ≡ Misfit
-        letter_other e =
-            letter_here ∙ rw (ne_eqb b (code " ") some, ne_eqb b (code "P") pass, ne_eqb b (code "F") e)
-
-  module _ (most : ℕ) (ends : Order) (c : Column) (name : c.0 ≡ Cn) (kept : c.1 ≡ most) where
+  module _ (most : ℕ) (ends : Order) (c : Column) (name : c.form ≡ Cn) (kept : c.most ≡ most) where
     some : (n : ℕ) → 1 ≤ n
         → name_at most n at ≡ cond (leb n most) (Fits (said.Text (record { at = at + 1; len = n }))) Misfit
     some zero h = absurd (omega arith)
     some (suc n) h = refl
 
-    pub name_size : size c.0 (drop at s) ≡ 1 + b
+    pub name_size : size c.form (drop at s) ≡ 1 + b
     unfolding size
     name_size = rw name (ap (λ (m : ℕ). 1 + m) first)
 
@@ -305,26 +300,26 @@ within_name s most (suc n) at f short h says = go (leb (suc n) most) refl
         rw (← same) (omega arith, omega arith)
     go false i = fits_none f (rw i at says)
 
-within_at : (ends : Order) (c : Column) (s : List ℕ) (at : ℕ) (f : Said) → (is_number c.0 ≡ false → c.1 ≤ 255)
+within_at : (ends : Order) (c : Column) (s : List ℕ) (at : ℕ) (f : Said) → (is_number c.form ≡ false → c.most ≤ 255)
     → field_at ends c s at ≡ Fits f → Within s f
 unfolding value_at size
-within_at ends c s at f short says = go (leb (at + size c.0 (drop at s)) (length s)) refl
+within_at ends c s at f short says = go (leb (at + size c.form (drop at s)) (length s)) refl
   where
-    value : (form : Form) → (is_number form ≡ false → c.1 ≤ 255) → at + size form (drop at s) ≤ length s
-        → value_at ends form c.1 c.3 s at ≡ Fits f → Within s f
-    value U1 short h is = within_number s U1 c.1 c.3 (number_in ends U1 s at) f is
-    value U2 short h is = within_number s U2 c.1 c.3 (number_in ends U2 s at) f is
-    value U4 short h is = within_number s U4 c.1 c.3 (number_in ends U4 s at) f is
-    value Time short h is = within_number s Time c.1 c.3 (number_in ends Time s at) f is
+    value : (form : Form) → (is_number form ≡ false → c.most ≤ 255) → at + size form (drop at s) ≤ length s
+        → value_at ends form c.most c.flag s at ≡ Fits f → Within s f
+    value U1 short h is = within_number s U1 c.most c.flag (number_in ends U1 s at) f is
+    value U2 short h is = within_number s U2 c.most c.flag (number_in ends U2 s at) f is
+    value U4 short h is = within_number s U4 c.most c.flag (number_in ends U4 s at) f is
+    value Time short h is = within_number s Time c.most c.flag (number_in ends Time s at) f is
     value C1 short h is = within_letter s (get_or (drop at s) 0 0) at f h is
-    value Cn short h is = within_name s c.1 (get_or (drop at s) 0 0) at f (short refl) h is
+    value Cn short h is = within_name s c.most (get_or (drop at s) 0 0) at f (short refl) h is
 
-    go : (t : Bool) → leb (at + size c.0 (drop at s)) (length s) ≡ t → Within s f
-    go true i = value c.0 short (leb-true (at + size c.0 (drop at s)) (length s) i) (rw i at says)
+    go : (t : Bool) → leb (at + size c.form (drop at s)) (length s) ≡ t → Within s f
+    go true i = value c.form short (leb-true (at + size c.form (drop at s)) (length s) i) (rw i at says)
     go false i = fits_none f (rw i at says)
 
 pub within_hidden : (s : List ℕ) (c : Column) (gone : Bool) (f : Said) → Within s f → Within s (hidden_said c gone f)
-within_hidden s c gone f w = go (is_beside c.3 && gone)
+within_hidden s c gone f w = go (is_beside c.flag && gone)
   where
     go : (t : Bool) → Within s (cond t said.Missing f)
     go true = tt
@@ -335,10 +330,10 @@ within_hidden s c gone f w = go (is_beside c.3 && gone)
 module _ (k : ℕ) (ends : Order) (c : Column) (s : List ℕ) (at : ℕ) where
   module _ (here : at < length s) where
     goes : (cs : List Column) → walked k ends (c ∷ cs) (drop at s)
-        ≡ put (saying s (field_at ends c s at)) (walked (k - 1) ends cs (drop (at + size c.0 (drop at s)) s))
+        ≡ put (saying s (field_at ends c s at)) (walked (k - 1) ends cs (drop (at + size c.form (drop at s)) s))
     goes cs =
         walked_on ends c cs k (drop at s) (omega (arith, length-drop at s))
-        ∙ rw (field_at_lem ends s at c (omega arith), drop-drop (size c.0 (drop at s)) at s)
+        ∙ rw (field_at_lem ends s at c (omega arith), drop-drop (size c.form (drop at s)) at s)
 
     pub goes_field : (r : Option (Said × ℕ)) → Stepped ends c s at r → Going ends c s k at r
     goes_field None f = λ cs. goes cs ∙ rw f
@@ -427,7 +422,7 @@ none_missing s (said.Text name) = refl
 
 pub hidden_said_lem : (s : List ℕ) (c : Column) (gone : Bool) (last : Entry) (f : Said) → is_none last ≡ gone
     → entry_of s (hidden_said c gone f) ≡ hidden_one c last (entry_of s f)
-hidden_said_lem s c gone last f e = rw e (go (is_beside c.3 && gone))
+hidden_said_lem s c gone last f e = rw e (go (is_beside c.flag && gone))
   where
     go : (t : Bool) → entry_of s (cond t said.Missing f) ≡ cond t Missing (entry_of s f)
     go true = refl
@@ -436,15 +431,15 @@ hidden_said_lem s c gone last f e = rw e (go (is_beside c.3 && gone))
 -- ---- the fields that it has filled
 
 module _ (k : ℕ) (ends : Order) (cs : List Column) (s : List ℕ) where
-  pub record Filled (fields : List Field) (at : ℕ) (gone : Bool) (j : ℕ) : Type 0 where
+  pub record Filled (fields : List Said) (at : ℕ) (gone : Bool) (j : ℕ) : Type 0 where
     pub last : Entry
     pub is_gone : is_none last ≡ gone
     pub rest : Rest k ends cs s (map (says s) (take j fields)) last at j
 
-  pub filled_first : (fields : List Field) → Filled fields 0 true 0
+  pub filled_first : (fields : List Said) → Filled fields 0 true 0
   filled_first fields = record { last = Missing; is_gone = refl; rest = rest_first k ends cs s }
 
-  module _ (fields : List Field) (at : ℕ) (gone : Bool) (j : ℕ) (filled : Filled fields at gone j) where
+  module _ (fields : List Said) (at : ℕ) (gone : Bool) (j : ℕ) (filled : Filled fields at gone j) where
     abbrev read : List Entry
     read = map (says s) (take j fields)
 
@@ -454,11 +449,11 @@ module _ (k : ℕ) (ends : Order) (cs : List Column) (s : List ℕ) where
 
       pub filled_on : (f : Said) (next : ℕ) → j < length fields
           → Going ends (get_or cs j no_column) s (k - j) at (Some (f, next))
-          → Filled (set fields j (record { said = hidden_said (get_or cs j no_column) gone f })) next
+          → Filled (set fields j (hidden_said (get_or cs j no_column) gone f)) next
           (is_missing (hidden_said (get_or cs j no_column) gone f)) (j + 1)
       filled_on f next room g =
           let c = get_or cs j no_column in
-          let field : Field = record { said = hidden_said c gone f } in
+          let field : Said = hidden_said c gone f in
           let is = hidden_said_lem s c gone filled.last f filled.is_gone in
           let on = rest_on k ends cs s read filled.last at j filled.rest more f next g in
           record {

@@ -211,23 +211,23 @@ module _ (ends : Order) where
 module _ (ends : Order) (c : Column) (cs : List Column) where
   -- where bytes are left, a field is read
   pub walked_on : (k : ℕ) (s : List ℕ) → 1 ≤ length s
-      → walked k ends (c ∷ cs) s ≡ put (field_said ends c s) (walked (k - 1) ends cs (drop (size c.0 s) s))
+      → walked k ends (c ∷ cs) s ≡ put (field_said ends c s) (walked (k - 1) ends cs (drop (size c.form s) s))
   unfolding walked
   walked_on k [] h = absurd (omega arith)
   walked_on k (b ∷ bs) h = refl
 
-  module _ (e : Entry) (h : Held ends c.0 c.1 c.3 e) where
+  module _ (e : Entry) (h : Held ends c.form c.most c.flag e) where
     abbrev bytes : List ℕ
-    bytes = stored ends c.0 e
+    bytes = stored ends c.form e
 
-    field_said_lem : (s : List ℕ) → field_said ends c (bytes ++ s) ≡ Fits (shown c.0 c.3 e)
+    field_said_lem : (s : List ℕ) → field_said ends c (bytes ++ s) ≡ Fits (shown c.form c.flag e)
     field_said_lem s =
         let short : length bytes ≤ length (bytes ++ s) = omega (arith, length-append bytes s) in
         rw (h.sized s, le-leb (length bytes) (length (bytes ++ s)) short, take_at bytes s (length bytes) refl)
         h.says
 
     walked_field : (k : ℕ) (es : List Entry) (s : List ℕ) → walked (k - 1) ends cs s ≡ Fits es
-        → walked k ends (c ∷ cs) (bytes ++ s) ≡ Fits (shown c.0 c.3 e ∷ es)
+        → walked k ends (c ∷ cs) (bytes ++ s) ≡ Fits (shown c.form c.flag e ∷ es)
     walked_field k es s ih =
         walked_on k (bytes ++ s) (omega (arith, length-append bytes s, h.some))
         ∙ rw (field_said_lem s, h.sized s, drop_at bytes s (length bytes) refl, ih)
@@ -237,7 +237,7 @@ module _ (ends : Order) (c : Column) (cs : List Column) where
 abbrev shown_all : List Column → List Entry → List Entry
 shown_all [] es = es
 shown_all (c ∷ cs) [] = []
-shown_all (c ∷ cs) (e ∷ es) = shown c.0 c.3 e ∷ shown_all cs es
+shown_all (c ∷ cs) (e ∷ es) = shown c.form c.flag e ∷ shown_all cs es
 
 module _ (ends : Order) where
   -- fields laid out one after the other
@@ -250,18 +250,18 @@ module _ (ends : Order) where
   laid_none (c ∷ cs) = refl
 
   laid_first : (c : Column) (cs : List Column) (e : Entry) (es : List Entry)
-      → laid_in (c ∷ cs) (e ∷ es) ≡ stored ends c.0 e ++ laid_in cs es
+      → laid_in (c ∷ cs) (e ∷ es) ≡ stored ends c.form e ++ laid_in cs es
   unfolding laid
   laid_first c cs e es = refl
 
   module _ (c : Column) (cs : List Column) (all : List Entry) where
     -- a field and those behind it, or none where it is missing and may be left out
-    walked_kept : (k : ℕ) (e : Entry) (es : List Entry) → Held ends c.0 c.1 c.3 e
-        → (leb 1 k || is_own c.3) ≡ true → walked (k - 1) ends cs (laid_in cs es) ≡ Fits all
-        → walked k ends (c ∷ cs) (laid_in (c ∷ cs) (kept k e es)) ≡ Fits (shown c.0 c.3 e ∷ all)
+    walked_kept : (k : ℕ) (e : Entry) (es : List Entry) → Held ends c.form c.most c.flag e
+        → (leb 1 k || is_own c.flag) ≡ true → walked (k - 1) ends cs (laid_in cs es) ≡ Fits all
+        → walked k ends (c ∷ cs) (laid_in (c ∷ cs) (kept k e es)) ≡ Fits (shown c.form c.flag e ∷ all)
     unfolding walked
     walked_kept zero Missing [] h l ih =
-        rw (laid_none (c ∷ cs), ← laid_none cs, ih, own_shown c.0 c.3 l)
+        rw (laid_none (c ∷ cs), ← laid_none cs, ih, own_shown c.form c.flag l)
     walked_kept zero Missing (x ∷ es) h l ih =
         rw (laid_first c cs Missing (x ∷ es)) (walked_field ends c cs Missing h 0 all (laid_in cs (x ∷ es)) ih)
     walked_kept zero (Number n) es h l ih =
@@ -279,24 +279,24 @@ module _ (ends : Order) where
   stored_walked k (c ∷ cs) [] sound f = false_true f
   stored_walked k (c ∷ cs) (e ∷ es) sound f =
       walked_kept c cs (shown_all cs es) k e (present (k - 1) es)
-      (held ends c.0 c.1 c.3 e (form_sound_lem k c cs sound) (both_left (entry_fits c e) (entries_fit cs es) f))
+      (held ends c.form c.most c.flag e (form_sound_lem k c cs sound) (both_left (entry_fits c e) (entries_fit cs es) f))
       (left_out k c cs sound)
       (stored_walked (k - 1) cs es (rest_sound k c cs sound) (both_right (entry_fits c e) (entries_fit cs es) f))
 
   -- REC_LEN holds the length of a body: at most 256 bytes a column
   kept_length : (c : Column) (cs : List Column) (k : ℕ) (e : Entry) (es : List Entry)
-      → length (stored ends c.0 e) ≤ 256 → length (laid_in (c ∷ cs) (kept k e es)) ≤ 256 + length (laid_in cs es)
+      → length (stored ends c.form e) ≤ 256 → length (laid_in (c ∷ cs) (kept k e es)) ≤ 256 + length (laid_in cs es)
   kept_length c cs zero Missing [] h = rw (laid_none (c ∷ cs)) (omega arith)
   kept_length c cs zero Missing (x ∷ es) h =
       rw (laid_first c cs Missing (x ∷ es))
-      (omega (arith, length-append (stored ends c.0 Missing) (laid_in cs (x ∷ es))))
+      (omega (arith, length-append (stored ends c.form Missing) (laid_in cs (x ∷ es))))
   kept_length c cs zero (Number n) es h =
-      rw (laid_first c cs (Number n) es) (omega (arith, length-append (stored ends c.0 (Number n)) (laid_in cs es)))
+      rw (laid_first c cs (Number n) es) (omega (arith, length-append (stored ends c.form (Number n)) (laid_in cs es)))
   kept_length c cs zero (Text bytes) es h =
       rw (laid_first c cs (Text bytes) es)
-      (omega (arith, length-append (stored ends c.0 (Text bytes)) (laid_in cs es)))
+      (omega (arith, length-append (stored ends c.form (Text bytes)) (laid_in cs es)))
   kept_length c cs (suc k) e es h =
-      rw (laid_first c cs e es) (omega (arith, length-append (stored ends c.0 e) (laid_in cs es)))
+      rw (laid_first c cs e es) (omega (arith, length-append (stored ends c.form e) (laid_in cs es)))
 
 -- ---- head and site
 
@@ -315,14 +315,14 @@ shown_alone form flag Missing b = rw b
 shown_alone form flag (Number n) b = refl
 shown_alone form flag (Text bytes) b = refl
 
-hidden_one_lem : (c : Column) (last e : Entry) → sits_one c last e ≡ true → hidden_one c last (shown c.0 c.3 e) ≡ e
-hidden_one_lem c last e s = go (is_beside c.3) refl (is_none last) refl
+hidden_one_lem : (c : Column) (last e : Entry) → sits_one c last e ≡ true → hidden_one c last (shown c.form c.flag e) ≡ e
+hidden_one_lem c last e s = go (is_beside c.flag) refl (is_none last) refl
   where
-    go : (t : Bool) → is_beside c.3 ≡ t → (u : Bool) → is_none last ≡ u
-        → hidden_one c last (shown c.0 c.3 e) ≡ e
-    go false f u g = rw f (shown_alone c.0 c.3 e f)
+    go : (t : Bool) → is_beside c.flag ≡ t → (u : Bool) → is_none last ≡ u
+        → hidden_one c last (shown c.form c.flag e) ≡ e
+    go false f u g = rw f (shown_alone c.form c.flag e f)
     go true f true g = rw (f, g) (none_is e (rw (f, g) at s))
-    go true f false g = rw (f, g) (shown_given c.0 c.3 e (not-true (is_none e) (rw (f, g) at s)))
+    go true f false g = rw (f, g) (shown_given c.form c.flag e (not-true (is_none e) (rw (f, g) at s)))
 
 hidden_shown : (last : Entry) (cs : List Column) (es : List Entry) → entries_fit cs es ≡ true → sits last cs es ≡ true
     → hidden last cs (shown_all cs es) ≡ es
@@ -352,7 +352,7 @@ stored_short ends k [] [] sound f = rw (laid_none ends []) (omega arith)
 stored_short ends k [] (e ∷ es) sound f = false_true f
 stored_short ends k (c ∷ cs) [] sound f = false_true f
 stored_short ends k (c ∷ cs) (e ∷ es) sound f =
-    let here = held ends c.0 c.1 c.3 e (form_sound_lem k c cs sound)
+    let here = held ends c.form c.most c.flag e (form_sound_lem k c cs sound)
     (both_left (entry_fits c e) (entries_fit cs es) f) in
     omega (
       arith,
@@ -365,7 +365,7 @@ stored_short ends k (c ∷ cs) (e ∷ es) sound f =
 -- a field beside another is never missing by itself
 pub record Raw (c : Column) (e : Entry) : Type 0 where
   pub fits : entry_fits c e ≡ true
-  pub alone : (not (is_beside c.3) || not (is_none e)) ≡ true
+  pub alone : (not (is_beside c.flag) || not (is_none e)) ≡ true
 
 or_true : (t : Bool) → (t || true) ≡ true
 or_true true = refl
@@ -436,13 +436,13 @@ value_raw ends C1 most flag s e sound says =
 value_raw ends Cn most flag s e sound says =
     name_raw most flag (drop 1 s) e (both_right (leb 1 most && leb most 255) (is_own flag) sound) says
 
-field_raw : (ends : Order) (c : Column) (s : List ℕ) (e : Entry) → form_sound c.0 c.1 c.3 ≡ true
+field_raw : (ends : Order) (c : Column) (s : List ℕ) (e : Entry) → form_sound c.form c.most c.flag ≡ true
     → field_said ends c s ≡ Fits e → Raw c e
-field_raw ends c s e sound says = go (leb (size c.0 s) (length s)) refl
+field_raw ends c s e sound says = go (leb (size c.form s) (length s)) refl
   where
-    go : (t : Bool) → leb (size c.0 s) (length s) ≡ t → Raw c e
+    go : (t : Bool) → leb (size c.form s) (length s) ≡ t → Raw c e
     go true f =
-        let r = value_raw ends c.0 c.1 c.3 (take (size c.0 s) s) e sound (rw f at says) in
+        let r = value_raw ends c.form c.most c.flag (take (size c.form s) s) e sound (rw f at says) in
         record { fits = r.0; alone = r.1 }
     go false f = fits_none e (rw f at says)
 
@@ -462,7 +462,7 @@ walked_raw k ends [] (b ∷ bs) es sound says = fits_none es says
 walked_raw zero ends (c ∷ cs) [] es sound says =
     let p = puts (Fits Missing) (walked 0 ends cs []) es says in
     let same : Missing ≡ p.head = cc p.head_said in
-    let own = own_alone c.3 (left_out 0 c cs sound) in
+    let own = own_alone c.flag (left_out 0 c cs sound) in
     rw (← p.is, ← same) (
       record { fits = own.0; alone = own.1 },
       walked_raw 0 ends cs [] p.tail (rest_sound 0 c cs sound)
@@ -471,7 +471,7 @@ walked_raw zero ends (c ∷ cs) [] es sound says =
 walked_raw (suc k) ends (c ∷ cs) [] es sound says = fits_none es says
 walked_raw k ends (c ∷ cs) (b ∷ bs) es sound says =
     let s = b ∷ bs in
-    let rest = drop (size c.0 s) s in
+    let rest = drop (size c.form s) s in
     let p = puts (field_said ends c s) (walked (k - 1) ends cs rest) es says in
     rw (← p.is) (
       field_raw ends c s p.head (form_sound_lem k c cs sound) p.head_said,
@@ -485,12 +485,12 @@ beside_missing Beside f = refl
 
 hides_one : (c : Column) (last e : Entry) → Raw c e
     → (entry_fits c (hidden_one c last e) ≡ true) × (sits_one c last (hidden_one c last e) ≡ true)
-hides_one c last e r = go (is_beside c.3) refl (is_none last) refl
+hides_one c last e r = go (is_beside c.flag) refl (is_none last) refl
   where
-    go : (t : Bool) → is_beside c.3 ≡ t → (u : Bool) → is_none last ≡ u
+    go : (t : Bool) → is_beside c.flag ≡ t → (u : Bool) → is_none last ≡ u
         → (entry_fits c (hidden_one c last e) ≡ true) × (sits_one c last (hidden_one c last e) ≡ true)
     go false f u g = rw f (r.fits, refl)
-    go true f true g = rw (f, g) (beside_missing c.3 f, refl)
+    go true f true g = rw (f, g) (beside_missing c.flag f, refl)
     go true f false g = rw (f, g) (r.fits, rw f at r.alone)
 
 hidden_fits : (last : Entry) (cs : List Column) (es : List Entry) → AllRaw cs es

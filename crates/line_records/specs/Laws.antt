@@ -6,8 +6,9 @@
 --   MeantRead     one rule: a body means something exactly where it fits its kind for a session
 --   JudgedOnce    what this code holds of a record leaves nothing open
 -- Assumes nothing.
-use Rattle.std.specs.Prelude.{◌≡◌, Bool, true, false, List, ℕ}
+use Rattle.std.specs.Prelude.{◌≡◌, Bool, true, false, List, ℕ, Result}
 use Rattle.prelude.specs.Once.{Once}
+use Rattle.answers.specs.declared.Answer.{Answer}
 use Rattle.frames.specs.Frames.{body}
 use Rattle.numbers.specs.declared.Order.{Order}
 use Rattle.numbers.specs.Laws.{Bytes}
@@ -20,7 +21,7 @@ use Rattle.line_layouts.specs.declared.Layout.TheVariants as layout
 use Rattle.line_layouts.specs.Entries.{Entry, Meaning}
 use Rattle.line_layouts.specs.Layouts.{fields_of}
 use Rattle.line_layouts.specs.Fitting.{Fitting}
-use Rattle.line_layouts.specs.declared.Judged.{Judged}
+use Rattle.line_layouts.specs.declared.Line.{Line}
 use Rattle.line_layouts.specs.Judging.{Held}
 use Rattle.line_records.specs.Walks.{Fit, Fits, Misfit, meant}
 use Rattle.line_records.specs.Records.{meaning}
@@ -50,7 +51,7 @@ abbrev pub MeantRead : Type 0
 MeantRead = (ends : Order) (tag : Tag) (b : List ℕ) → Bytes b
     → is_fit (meant ends tag b) ≡ fitting (read_body ends (kind_for tag) b)
 
-abbrev pub JudgePromise : Order → List ℕ → Judged → Type 0
+abbrev pub JudgePromise : Order → List ℕ → Result Line Answer → Type 0
 JudgePromise ends s j = Held (body s) (record_line ends s) (meaning ends s) j
 
 -- "How the promises are held to account": no two different outcomes satisfy it

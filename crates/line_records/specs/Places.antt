@@ -20,7 +20,6 @@ use Rattle.line_layouts.specs.declared.Flag.{Flag}
 use Rattle.line_layouts.specs.declared.Column.{Column}
 use Rattle.line_layouts.specs.declared.Said.{Said}
 use Rattle.line_layouts.specs.declared.Said.TheVariants as said
-use Rattle.line_layouts.specs.declared.Field.{Field}
 use Rattle.line_layouts.specs.declared.Line.{Line}
 use Rattle.line_layouts.specs.Columns.{columns, width}
 use Rattle.line_layouts.specs.Entries.{Entry, entry_of, is_missing, padded, Within}
@@ -58,7 +57,7 @@ value_at ends Cn most flag s at = name_at most (get_or (drop at s) 0 0) at
 -- the field that begins at a place
 abbrev pub field_at : Order → Column → List ℕ → ℕ → Fit Said
 field_at ends c s at =
-    Misfit unless leb (at + size c.0 (drop at s)) (length s) then value_at ends c.0 c.1 c.3 s at
+    Misfit unless leb (at + size c.form (drop at s)) (length s) then value_at ends c.form c.most c.flag s at
 
 abbrev pub saying : List ℕ → Fit Said → Fit Entry
 saying s Misfit = Misfit
@@ -78,19 +77,19 @@ abbrev pub step_said : Order → Column → List ℕ → ℕ → Said
 step_said ends c s at = cond (ltb at (length s)) (said_of (field_at ends c s at)) said.Missing
 
 abbrev pub step_next : Column → List ℕ → ℕ → ℕ
-step_next c s at = cond (ltb at (length s)) (at + size c.0 (drop at s)) at
+step_next c s at = cond (ltb at (length s)) (at + size c.form (drop at s)) at
 
 abbrev pub Stepped : Order → Column → List ℕ → ℕ → Option (Said × ℕ) → Type 0
 Stepped ends c s at None = field_at ends c s at ≡ Misfit
 Stepped ends c s at (Some (f, next)) =
-    (field_at ends c s at ≡ Fits f) × (next ≡ at + size c.0 (drop at s)) × (next ≤ length s)
+    (field_at ends c s at ≡ Fits f) × (next ≡ at + size c.form (drop at s)) × (next ≤ length s)
 
 -- a letter or a name is the same in either order, for each of their columns
 abbrev pub LetterStepped : List ℕ → ℕ → Option (Said × ℕ) → Type 0
-LetterStepped s at r = (ends : Order) (c : Column) → c.0 ≡ C1 → Stepped ends c s at r
+LetterStepped s at r = (ends : Order) (c : Column) → c.form ≡ C1 → Stepped ends c s at r
 
 abbrev pub NameStepped : ℕ → List ℕ → ℕ → Option (Said × ℕ) → Type 0
-NameStepped most s at r = (ends : Order) (c : Column) → c.0 ≡ Cn → c.1 ≡ most → Stepped ends c s at r
+NameStepped most s at r = (ends : Order) (c : Column) → c.form ≡ Cn → c.most ≡ most → Stepped ends c s at r
 
 -- of the rest of a body of which k fields must still come
 abbrev pub Going : Order → Column → List ℕ → ℕ → ℕ → Option (Said × ℕ) → Type 0
@@ -99,13 +98,13 @@ Going ends c s k at (Some (f, next)) =
     ((cs : List Column)
     → walked k ends (c ∷ cs) (drop at s) ≡ put (Fits (entry_of s f)) (walked (k - 1) ends cs (drop next s)))
     × (next ≤ length s)
-    × ((is_number c.0 ≡ false → c.1 ≤ 255) → Within s f)
+    × ((is_number c.form ≡ false → c.most ≤ 255) → Within s f)
     × (f ≡ step_said ends c s at)
     × (next ≡ step_next c s at)
 
 -- a site under head 255
 abbrev pub hidden_said : Column → Bool → Said → Said
-hidden_said c gone f = cond (is_beside c.3 && gone) said.Missing f
+hidden_said c gone f = cond (is_beside c.flag && gone) said.Missing f
 
 -- ---- all fields
 
@@ -113,10 +112,10 @@ abbrev pub place_said : Order → Column → List ℕ → ℕ → Bool → Said
 place_said ends c s at gone = hidden_said c gone (step_said ends c s at)
 
 -- from a place on, the field before it missing or not
-unfoldable pub fields_from : Order → List Column → List ℕ → ℕ → Bool → List Field
+unfoldable pub fields_from : Order → List Column → List ℕ → ℕ → Bool → List Said
 fields_from ends [] s at gone = []
 fields_from ends (c ∷ cs) s at gone =
-    record { said = place_said ends c s at gone } ∷
+    place_said ends c s at gone ∷
     fields_from ends cs s (step_next c s at) (is_missing (place_said ends c s at gone))
 
 unfoldable pub line_at : Order → Tag → List ℕ → Line

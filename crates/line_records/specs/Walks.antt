@@ -68,8 +68,8 @@ value_said ends Cn most flag s = name_said most (drop 1 s)
 -- it may not stop inside a field
 abbrev pub field_said : Order → Column → List ℕ → Fit Entry
 field_said ends c s =
-    Misfit unless leb (size c.0 s) (length s) then
-    value_said ends c.0 c.1 c.3 (take (size c.0 s) s)
+    Misfit unless leb (size c.form s) (length s) then
+    value_said ends c.form c.most c.flag (take (size c.form s) s)
 
 -- ---- all of them
 
@@ -81,11 +81,11 @@ walked k ends [] (b ∷ bs) = Misfit
 walked zero ends (c ∷ cs) [] = put (Fits Missing) (walked zero ends cs [])
 walked (suc k) ends (c ∷ cs) [] = Misfit
 walked k ends (c ∷ cs) (b ∷ bs) =
-    put (field_said ends c (b ∷ bs)) (walked (k - 1) ends cs (drop (size c.0 (b ∷ bs)) (b ∷ bs)))
+    put (field_said ends c (b ∷ bs)) (walked (k - 1) ends cs (drop (size c.form (b ∷ bs)) (b ∷ bs)))
 
 -- STDF head 255 is both empty, its site ignored; the first entry is the one before
 abbrev pub hidden_one : Column → Entry → Entry → Entry
-hidden_one c last e = cond (is_beside c.3 && is_none last) Missing e
+hidden_one c last e = cond (is_beside c.flag && is_none last) Missing e
 
 unfoldable pub hidden : Entry → List Column → List Entry → List Entry
 hidden last [] es = es

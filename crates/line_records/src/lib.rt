@@ -10,8 +10,7 @@ ghost use Rattle.line_records.specs.Laws.{JudgePromise};
 
 use answers::Answer;
 use kinds::Kind;
-use line_layouts::judging::refused_line;
-use line_layouts::{Judged, Said, Tag};
+use line_layouts::{Line, Tag};
 use numbers::Order;
 
 fn count_tag(kind: Kind) -> Option<Tag>
@@ -23,29 +22,19 @@ fn count_tag(kind: Kind) -> Option<Tag>
         Kind::Sbr => Some(Tag::Sbr),
         Kind::Wir => Some(Tag::Wir),
         Kind::Wrr => Some(Tag::Wrr),
-        Kind::Far => None,
-        Kind::Atr => None,
-        Kind::Mir => None,
-        Kind::Mrr => None,
-        Kind::Rdr => None,
-        Kind::Sdr => None,
-        Kind::Pir => None,
-        Kind::Prr => None,
-        Kind::Remaining(_) => None,
-        Kind::Custom => None,
-        Kind::Unknown => None,
+        _ => None,
     }
 }
 
 // A record taken apart, its text told by places in its body.
-pub fn judge_record(order: Order, record: &[u8]) -> Judged
+pub fn judge_record(order: Order, record: &[u8]) -> Result<Line, Answer>
     ensures { JudgePromise order «record».now result }
 {
     if !frames::is_record(order, record) {
-        return refused_line(Answer::NotOneRecord);
+        return Err(Answer::NotOneRecord);
     }
     match count_tag(kinds::kind_of(record[2], record[3])) {
         Some(tag) => walking::walk(order, tag, &record[4..]),
-        None => refused_line(Answer::UnknownKind),
+        None => Err(Answer::UnknownKind),
     }
 }

@@ -124,54 +124,54 @@ spoken sep ok form n small least = go (is_time form) refl
         }
 
 module _ (sep : ℕ) (c : Column) (ok : Sane c) (range : Ranged c) where
-  number_reads : (n : ℕ) (s : List ℕ) → 1 ≤ length s → numeral_in c.0 s ≡ Some n → is_number c.0 ≡ true
-      → leb n c.1 ≡ true → (piece_fits sep c s ≡ true) × (entry_in c s ≡ Number n)
+  number_reads : (n : ℕ) (s : List ℕ) → 1 ≤ length s → numeral_in c.form s ≡ Some n → is_number c.form ≡ true
+      → leb n c.most ≡ true → (piece_fits sep c s ≡ true) × (entry_in c s ≡ Number n)
   unfolding piece_fits entry_in
   number_reads n [] some value f g = absurd (omega arith)
   number_reads n (b ∷ bs) some value f g = (rw (f, value) g, rw (f, value))
 
-  text_reads : (b : ℕ) (bs : List ℕ) → is_number c.0 ≡ false → length (b ∷ bs) ≤ c.1
-      → (is_name c.0 || letter_fits (b ∷ bs)) ≡ true → each (allowed sep) (b ∷ bs) ≡ true
+  text_reads : (b : ℕ) (bs : List ℕ) → is_number c.form ≡ false → length (b ∷ bs) ≤ c.most
+      → (is_name c.form || letter_fits (b ∷ bs)) ≡ true → each (allowed sep) (b ∷ bs) ≡ true
       → (piece_fits sep c (b ∷ bs) ≡ true) × (entry_in c (b ∷ bs) ≡ Text (b ∷ bs))
   unfolding piece_fits entry_in
   text_reads b bs f g h clean =
-      (rw f (go (is_name c.0) refl), rw f (ap Text (take_all c.1 (b ∷ bs) g)))
+      (rw f (go (is_name c.form) refl), rw f (ap Text (take_all c.most (b ∷ bs) g)))
     where
-      go : (t : Bool) → is_name c.0 ≡ t
-          → cond (is_name c.0) (each (allowed sep) (b ∷ bs)) (letter_fits (b ∷ bs)) ≡ true
+      go : (t : Bool) → is_name c.form ≡ t
+          → cond (is_name c.form) (each (allowed sep) (b ∷ bs)) (letter_fits (b ∷ bs)) ≡ true
       go true e = rw e clean
       go false e = rw e (rw e at h)
 
   -- an entry's text is plain, fits its column, and says the entry
   entry_reads : Apart sep → (e : Entry) → tells sep c e ≡ true
-      → (each (plain sep) (entry_text c.0 e) ≡ true) × (piece_fits sep c (entry_text c.0 e) ≡ true)
-      × (entry_in c (entry_text c.0 e) ≡ e)
+      → (each (plain sep) (entry_text c.form e) ≡ true) × (piece_fits sep c (entry_text c.form e) ≡ true)
+      × (entry_in c (entry_text c.form e) ≡ e)
   unfolding piece_fits entry_in
   entry_reads apart Missing e =
-      let there = both_left (not c.2) true (both_right (has_flag c.3) (not c.2 && true) e) in
+      let there = both_left (not c.required) true (both_right (has_flag c.flag) (not c.required && true) e) in
       (refl, there, refl)
   entry_reads apart (Number n) e =
-      let other = not (is_flag c.0 c.3 n) in
-      let fit = both_left (is_number c.0 && (leb n c.1 && other)) true e in
-      let f = both_left (is_number c.0) (leb n c.1 && other) fit in
-      let in_range = both_right (is_number c.0) (leb n c.1 && other) fit in
-      let g = both_left (leb n c.1) other in_range in
-      let h = both_right (leb n c.1) other in_range in
-      let small : n < 2 ^ 32 = omega (arith, leb-true n c.1 g, ok.most) in
-      let text = spoken sep apart c.0 n small (λ (t : is_time c.0 ≡ true). range.least n t h) in
-      let r = number_reads n (number_text c.0 n) text.some text.says f g in
+      let other = not (is_flag c.form c.flag n) in
+      let fit = both_left (is_number c.form && (leb n c.most && other)) true e in
+      let f = both_left (is_number c.form) (leb n c.most && other) fit in
+      let in_range = both_right (is_number c.form) (leb n c.most && other) fit in
+      let g = both_left (leb n c.most) other in_range in
+      let h = both_right (leb n c.most) other in_range in
+      let small : n < 2 ^ 32 = omega (arith, leb-true n c.most g, ok.most) in
+      let text = spoken sep apart c.form n small (λ (t : is_time c.form ≡ true). range.least n t h) in
+      let r = number_reads n (number_text c.form n) text.some text.says f g in
       (text.clean, r.0, r.1)
   entry_reads apart (Text []) e = false_true e
   entry_reads apart (Text (b ∷ bs)) e =
-      let rule = is_name c.0 || letter_fits (b ∷ bs) in
-      let size = leb (length (b ∷ bs)) c.1 in
+      let rule = is_name c.form || letter_fits (b ∷ bs) in
+      let size = leb (length (b ∷ bs)) c.most in
       let clean = each (allowed sep) (b ∷ bs) in
-      let all = not (is_number c.0) && (size && rule) in
+      let all = not (is_number c.form) && (size && rule) in
       let fit = both_left all clean e in
-      let f = not-true (is_number c.0) (both_left (not (is_number c.0)) (size && rule) fit) in
-      let g = both_left size rule (both_right (not (is_number c.0)) (size && rule) fit) in
-      let h = both_right size rule (both_right (not (is_number c.0)) (size && rule) fit) in
-      let r = text_reads b bs f (leb-true (length (b ∷ bs)) c.1 g) h (both_right all clean e) in
+      let f = not-true (is_number c.form) (both_left (not (is_number c.form)) (size && rule) fit) in
+      let g = both_left size rule (both_right (not (is_number c.form)) (size && rule) fit) in
+      let h = both_right size rule (both_right (not (is_number c.form)) (size && rule) fit) in
+      let r = text_reads b bs f (leb-true (length (b ∷ bs)) c.most g) h (both_right all clean e) in
       (each_weak (allowed sep) (plain sep) (plain_allowed sep) (b ∷ bs) (both_right all clean e), r.0, r.1)
 
 -- ---- all of them, in the order of the columns
@@ -179,10 +179,10 @@ module _ (sep : ℕ) (c : Column) (ok : Sane c) (range : Ranged c) where
 abbrev texts : List Column → List Entry → List (List ℕ)
 texts [] es = []
 texts (c ∷ cs) [] = []
-texts (c ∷ cs) (e ∷ es) = entry_text c.0 e ∷ texts cs es
+texts (c ∷ cs) (e ∷ es) = entry_text c.form e ∷ texts cs es
 
 text_at : (cs : List Column) (es : List Entry) → length es ≤ length cs → (i : ℕ)
-    → get_or (texts cs es) i [] ≡ entry_text (get_or cs i no_column).0 (get_or es i Missing)
+    → get_or (texts cs es) i [] ≡ entry_text (get_or cs i no_column).form (get_or es i Missing)
 text_at [] [] h i = refl
 text_at [] (e ∷ es) h i = absurd (omega arith)
 text_at (c ∷ cs) [] h i = refl
@@ -312,7 +312,7 @@ module _ (tag : Tag) (es : List Entry) (size : length es ≡ length (columns tag
 -- some field is required of every tag
 abbrev required : List Column → Bool
 required [] = false
-required (c ∷ cs) = c.2 || required cs
+required (c ∷ cs) = c.required || required cs
 
 required_some : (tag : Tag) → required (columns tag) ≡ true
 required_some Pcr = refl
@@ -327,7 +327,7 @@ never_none : {A : Type 0} (sep : ℕ) (cs : List Column) (es : List Entry) → r
 never_none sep [] es r e all = false_true r
 never_none sep (c ∷ cs) [] r e all = false_true e
 never_none {A} sep (c ∷ cs) (x ∷ es) r e all =
-    go c.2 refl
+    go c.required refl
     (λ (f : required cs ≡ true). never_none sep cs es f (both_right (tells sep c x) (all_tell sep cs es) e)
     (λ (i : ℕ). all (suc i)))
   where
@@ -337,7 +337,7 @@ never_none {A} sep (c ∷ cs) (x ∷ es) r e all =
         (both_right (entry_fits c x) (given c x && entry_allowed sep x) (both_left (tells sep c x)
         (all_tell sep cs es) e))
 
-    go : (t : Bool) → c.2 ≡ t → (required cs ≡ true → A) → A
+    go : (t : Bool) → c.required ≡ t → (required cs ≡ true → A) → A
     go true f more = let none : x ≡ Missing = all 0 in false_true (rw (none, f) at there)
     go false f more = more (rw f at r)
 
@@ -408,11 +408,11 @@ module _ (sep : ℕ) where
       → laid (layout.Text sep) cs (e ∷ es) ≡ lined sep (texts cs (e ∷ es)) ++ line_feed ∷ []
   unfolding laid joined
   laid_lined [] e es h = absurd (omega arith)
-  laid_lined (c ∷ []) e [] h = append-nil (entry_text c.0 e ++ line_feed ∷ [])
-  laid_lined (c ∷ d ∷ cs) e [] h = append-nil (entry_text c.0 e ++ line_feed ∷ [])
+  laid_lined (c ∷ []) e [] h = append-nil (entry_text c.form e ++ line_feed ∷ [])
+  laid_lined (c ∷ d ∷ cs) e [] h = append-nil (entry_text c.form e ++ line_feed ∷ [])
   laid_lined (c ∷ []) e (x ∷ es) h = absurd (omega arith)
   laid_lined (c ∷ d ∷ cs) e (x ∷ es) h =
-      let text = entry_text c.0 e in
+      let text = entry_text c.form e in
       let rest = lined sep (texts (d ∷ cs) (x ∷ es)) in
       rw (
         laid_lined (d ∷ cs) x es (omega arith),
@@ -544,10 +544,10 @@ canonical_once sep separates m m' fit fit' e =
 -- ---- what a line means can be told
 
 module _ (sep : ℕ) (ok : Apart sep) (c : Column) (table : Sane c) (range : Ranged c) where
-  number_tells : (p : List ℕ) (x : Option ℕ) → numeral_in c.0 p ≡ x → is_number c.0 ≡ true
-      → number_fits c.1 x ≡ true → tells sep c (number_in x) ≡ true
+  number_tells : (p : List ℕ) (x : Option ℕ) → numeral_in c.form p ≡ x → is_number c.form ≡ true
+      → number_fits c.most x ≡ true → tells sep c (number_in x) ≡ true
   number_tells p (Some n) is f g =
-      let other = range.unflagged n f (numeral_least c.0 p n is) (leb-true n c.1 g) in
+      let other = range.unflagged n f (numeral_least c.form p n is) (leb-true n c.most g) in
       rw (f, g, other)
   number_tells p None is f g = false_true g
 
@@ -556,15 +556,15 @@ module _ (sep : ℕ) (ok : Apart sep) (c : Column) (table : Sane c) (range : Ran
   letters_allowed b [] few e = rw (letter_allowed sep ok b e)
   letters_allowed b (x ∷ bs) few e = absurd (omega arith)
 
-  text_tells : (b : ℕ) (bs : List ℕ) (n : ℕ) → c.1 ≡ suc n → is_number c.0 ≡ false
-      → cond (is_name c.0) (each (allowed sep) (b ∷ bs)) (letter_fits (b ∷ bs)) ≡ true
+  text_tells : (b : ℕ) (bs : List ℕ) (n : ℕ) → c.most ≡ suc n → is_number c.form ≡ false
+      → cond (is_name c.form) (each (allowed sep) (b ∷ bs)) (letter_fits (b ∷ bs)) ≡ true
       → tells sep c (Text (take (suc n) (b ∷ bs))) ≡ true
   text_tells b bs n size f h =
-      let short : length (b ∷ take n bs) ≤ c.1 = omega (arith, length-take n bs) in
-      rw (f, le-leb (length (b ∷ take n bs)) c.1 short) (go (is_name c.0) refl)
+      let short : length (b ∷ take n bs) ≤ c.most = omega (arith, length-take n bs) in
+      rw (f, le-leb (length (b ∷ take n bs)) c.most short) (go (is_name c.form) refl)
     where
-      go : (t : Bool) → is_name c.0 ≡ t
-          → ((is_name c.0 || letter_fits (b ∷ take n bs)) && each (allowed sep) (b ∷ take n bs)) ≡ true
+      go : (t : Bool) → is_name c.form ≡ t
+          → ((is_name c.form || letter_fits (b ∷ take n bs)) && each (allowed sep) (b ∷ take n bs)) ≡ true
       go true e = rw e (each_take ℕ (allowed sep) (suc n) (b ∷ bs) (rw e at h))
       go false e =
           let letter : is_letter b ≡ true = rw e at h in
@@ -573,11 +573,11 @@ module _ (sep : ℕ) (ok : Apart sep) (c : Column) (table : Sane c) (range : Ran
 
   piece_tells : (p : List ℕ) → piece_fits sep c p ≡ true → tells sep c (entry_in c p) ≡ true
   unfolding piece_fits entry_in
-  piece_tells [] e = rw (e, rw (not-true c.2 e) at table.empties)
-  piece_tells (b ∷ bs) e = go (is_number c.0) refl c.1 refl
+  piece_tells [] e = rw (e, rw (not-true c.required e) at table.empties)
+  piece_tells (b ∷ bs) e = go (is_number c.form) refl c.most refl
     where
-      go : (t : Bool) → is_number c.0 ≡ t → (n : ℕ) → c.1 ≡ n → tells sep c (value_in c (b ∷ bs)) ≡ true
-      go true f n g = rw f (number_tells (b ∷ bs) (numeral_in c.0 (b ∷ bs)) refl f (rw f at e))
+      go : (t : Bool) → is_number c.form ≡ t → (n : ℕ) → c.most ≡ n → tells sep c (value_in c (b ∷ bs)) ≡ true
+      go true f n g = rw f (number_tells (b ∷ bs) (numeral_in c.form (b ∷ bs)) refl f (rw f at e))
       go false f zero g = absurd (omega (arith, table.some f))
       go false f (suc n) g =
           rw f

@@ -1,15 +1,17 @@
 -- Laws of text cut at separators: how a piece ends, what is left behind it, and how columns go on with the next one.
 -- Assumes nothing.
 use mathlib.Core.Path.{◌≡◌, refl, ap, ◌∙◌}
-use mathlib.Core.Bool.{Bool, true, false, not}
-use mathlib.Core.List.{List, [], ◌∷◌, ◌++◌}
+use mathlib.Core.Bool.{Bool, true, false, cond, not}
+use mathlib.Core.List.{List, [], ◌∷◌}
 use Prim.Native.Nat.{ℕ, zero, suc, ◌+◌, ◌-◌, ◌≤◌, ◌<◌}
-use native.Mathlib.Numerals.{add-one}
+use native.Mathlib.Numerals.{add-one, one-add}
 use native.Mathlib.Omega.{arith}
-use borrow.Author.Tests.{eq-eqb, ne_eqb, lt-ltb, le-ltb, lt-leb, le-leb}
-use lib.Dec.{leb, ltb}
-use lib.ListN.{length, get_or, drop, length-drop, drop_of_length-le}
-use lib.Seq.{drop-cons, take-suc, get_or-drop}
+use borrow.Author.Tests.{ltb-true, ltb-false, lt-ltb, le-ltb, lt-leb, le-leb}
+use lib.Dec.{eqb, leb, ltb}
+use lib.ListN.{length, get_or, take, drop, length-drop, drop_of_length-le}
+use lib.Seq.{drop-cons, drop-drop}
+use Rattle.std.specs.Prelude.{Option, Some, None}
+use Rattle.std.specs.List.{position_or_len}
 use Rattle.prelude.proofs.Never.{false_true}
 use Rattle.prelude.proofs.Both.{both_left, both_right}
 use Rattle.output.specs.Placed.{part}
@@ -17,86 +19,116 @@ use Rattle.output.proofs.Laws.{length_part}
 use Rattle.line_layouts.specs.declared.Column.{Column}
 use Rattle.line_layouts.specs.Columns.{no_column}
 use Rattle.line_texts.specs.Pieces.{onto, split, piece_fits, fields_fit}
-use Rattle.line_texts.specs.Places.{no_place, places_from, places_of, left, places_left, Ends, Next}
+use Rattle.line_texts.specs.Places.{no_place, places_from, places_of, left, places_left, next_from}
+use Rattle.line_texts.specs.Places.{Ends, Next}
 use Rattle.line_texts.proofs.Joins.{split_some}
 
--- ---- bytes in front of a piece
+-- ---- the end of a piece
 
-abbrev before : List ℕ → List (List ℕ) → List (List ℕ)
-before [] ps = ps
-before (b ∷ bs) ps = onto b (before bs ps)
+-- what the library tells of a place that it looks for
+pub stop_is : (n k len : ℕ) → Some len ≡ cond (ltb n k) (Some n) None → n ≡ len
+stop_is n k len e = go (ltb n k) e
+  where
+    go : (t : Bool) → Some len ≡ cond t (Some n) None → n ≡ len
+    go true f = cc
+    go false f = cc
 
-before_more : (bs : List ℕ) (b : ℕ) (ps : List (List ℕ)) → before (bs ++ b ∷ []) ps ≡ before bs (onto b ps)
-before_more [] b ps = refl
-before_more (x ∷ bs) b ps = ap (onto x) (before_more bs b ps)
+pub stop_none : (n k : ℕ) → ◌≡◌ {A = Option ℕ} None (cond (ltb n k) (Some n) None) → k ≤ n
+stop_none n k e = go (ltb n k) refl e
+  where
+    go : (t : Bool) → ltb n k ≡ t → ◌≡◌ {A = Option ℕ} None (cond t (Some n) None) → k ≤ n
+    go true f g = absurd cc
+    go false f g = ltb-false n k f
 
-before_none : (bs : List ℕ) (ps : List (List ℕ)) → before bs ([] ∷ ps) ≡ bs ∷ ps
-before_none [] ps = refl
-before_none (b ∷ bs) ps = rw (before_none bs ps)
+ltb_suc : (n k : ℕ) → ltb (suc n) (suc k) ≡ ltb n k
+ltb_suc n k = go (ltb n k) refl
+  where
+    go : (t : Bool) → ltb n k ≡ t → ltb (suc n) (suc k) ≡ t
+    go true e = let h = ltb-true n k e in lt-ltb (suc n) (suc k) (omega arith)
+    go false e = let h = ltb-false n k e in le-ltb (suc n) (suc k) (omega arith)
 
--- ---- the walk to the end of a piece, at place i
+module _ (sep : ℕ) where
+  -- how many bytes stand before the first separator
+  abbrev pub stop : List ℕ → ℕ
+  stop s = position_or_len (λ (b : ℕ). eqb b sep) s
 
-module _ (sep : ℕ) (s : List ℕ) (from i : ℕ) where
-  -- what has been passed holds no separator
-  abbrev pub Passed : Type 0
-  Passed = split sep (drop from s) ≡ before (part from (i - from) s) (split sep (drop i s))
+  stop_within : (s : List ℕ) → stop s ≤ length s
+  stop_within [] = omega arith
+  stop_within (b ∷ bs) = go (stop_within bs) (eqb b sep)
+    where
+      go : stop bs ≤ length bs → (t : Bool) → cond (not t) (1 + stop bs) 0 ≤ suc (length bs)
+      go so_far true = omega arith
+      go so_far false = omega arith
 
-  pub passed_on : from ≤ i → i < length s → (get_or s i 0 ≡ sep → ⊥) → Passed
-      → split sep (drop from s) ≡ before (part from (i + 1 - from) s) (split sep (drop (i + 1) s))
+  cut_here : (s : List ℕ)
+      → split sep s ≡ take (stop s) s ∷ cond (ltb (stop s) (length s)) (split sep (drop (suc (stop s)) s)) []
   unfolding split
-  passed_on h g other p =
-      let more : i + 1 - from ≡ suc (i - from) = omega arith in
-      let inside : i - from < length (drop from s) = omega (arith, length-drop from s) in
-      let place : from + (i - from) ≡ i = omega arith in
-      let byte : get_or (drop from s) (i - from) 0 ≡ get_or s i 0 =
-      get_or-drop from s (i - from) 0 ∙ ap (λ (k : ℕ). get_or s k 0) place in
-      rw (more, take-suc (drop from s) (i - from) 0 inside, byte, before_more, add-one i)
-      (rw (drop-cons s i 0 g, ne_eqb (get_or s i 0) sep other) at p)
+  cut_here [] = refl
+  cut_here (b ∷ bs) = go (cut_here bs) (eqb b sep)
+    where
+      go : split sep bs ≡ take (stop bs) bs ∷ cond (ltb (stop bs) (length bs)) (split sep (drop (suc (stop bs)) bs)) []
+          → (t : Bool)
+          → cond t ([] ∷ split sep bs) (onto b (split sep bs))
+          ≡ take (cond (not t) (1 + stop bs) 0) (b ∷ bs)
+          ∷ cond (ltb (cond (not t) (1 + stop bs) 0) (suc (length bs)))
+          (split sep (drop (suc (cond (not t) (1 + stop bs) 0)) (b ∷ bs))) []
+      go so_far true = rw (lt-ltb 0 (suc (length bs)) (omega arith))
+      go so_far false = rw (one-add (stop bs), ltb_suc (stop bs) (length bs), so_far)
 
-  pub passed_separator : i < length s → get_or s i 0 ≡ sep → Passed
-      → split sep (drop from s) ≡ part from (i - from) s ∷ left sep (ltb i (length s)) (i + 1) s
-  unfolding split
-  passed_separator g is p =
-      rw (lt-ltb i (length s) g, add-one i)
-      (rw (drop-cons s i 0 g, eq-eqb (get_or s i 0) sep is, before_none) at p)
+  module _ (s : List ℕ) (from n : ℕ) (h : from ≤ length s) (is : stop (drop from s) ≡ n) where
+    pub piece_ends : Ends sep s from (from + n)
+    piece_ends =
+        let inside : n ≤ length (drop from s) = omega (arith, is, stop_within (drop from s)) in
+        let size : from + n - from ≡ n = omega arith in
+        let all = length-drop from s in
+        record {
+          low = omega arith;
+          high = omega (arith, all);
+          cut = rw (size, cut_here (drop from s), is) (go (ltb n (length (drop from s))) refl);
+        }
+      where
+        go : (t : Bool) → ltb n (length (drop from s)) ≡ t
+            → take n (drop from s) ∷ cond (ltb n (length (drop from s))) (split sep (drop (suc n) (drop from s))) []
+            ≡ part from n s ∷ left sep (next_from (from + n) s) s
+        go true e =
+            let more : from + n < length s = omega (arith, ltb-true n (length (drop from s)) e, length-drop from s) in
+            let place : from + suc n ≡ from + n + 1 = omega arith in
+            rw (e, lt-ltb (from + n) (length s) more, drop-drop (suc n) from s, place)
+        go false e =
+            let last : length s ≤ from + n =
+            omega (arith, ltb-false n (length (drop from s)) e, length-drop from s) in
+            rw (e, le-ltb (from + n) (length s) last)
 
-  pub passed_all : length s ≤ i → Passed
-      → split sep (drop from s) ≡ part from (i - from) s ∷ left sep (ltb i (length s)) (i + 1) s
-  unfolding split
-  passed_all h p = rw (le-ltb i (length s) h) (rw (drop_of_length-le s {i = i} h, before_none) at p)
-
-pub passed_none : (sep : ℕ) (s : List ℕ) (from : ℕ) → Passed sep s from from
-passed_none sep s from =
-    let none : from - from ≡ 0 = omega arith in
-    rw none
+  pub piece_last : (s : List ℕ) (from : ℕ) → from ≤ length s → length (drop from s) ≤ stop (drop from s)
+      → Ends sep s from (length s)
+  piece_last s from h last =
+      let size : stop (drop from s) ≡ length (drop from s) = omega (arith, stop_within (drop from s)) in
+      let end : from + length (drop from s) ≡ length s = omega (arith, length-drop from s) in
+      rw (← end) (piece_ends s from (length (drop from s)) h size)
 
 -- ---- the next piece
 
-module _ (sep : ℕ) (s : List ℕ) (from : ℕ) (more : Bool) where
-  pub next_none : from ≤ length s → more ≡ false
-      → Next sep s from more (record { place = no_place; next = from; more = false })
-  unfolding places_from
-  next_none h e = rw e record { is = refl; on = h; behind = refl }
+module _ (sep : ℕ) (s : List ℕ) where
+  pub next_none : Next sep s None (record { place = no_place; next = None })
+  next_none = record { is = refl; on = tt; behind = refl }
 
-  module _ (to : ℕ) (ends : Ends sep s from to) (e : more ≡ true) where
-    cut_left : places_left sep more from s
-        ≡ record { at = from; len = to - from } ∷ places_from (to + 1) (left sep (ltb to (length s)) (to + 1) s)
+  module _ (from to : ℕ) (ends : Ends sep s from to) where
+    cut_left : places_left sep (Some from) s
+        ≡ record { at = from; len = to - from } ∷ places_from (to + 1) (left sep (next_from to s) s)
     unfolding places_from
     cut_left =
         let size = length_part from (to - from) s (omega (arith, ends.low, ends.high)) in
         let place : from + (to - from) + 1 ≡ to + 1 = omega (arith, ends.low) in
-        rw (e, ends.cut, size, place)
+        rw (ends.cut, size, place)
 
     pub next_more : to < length s
-        → Next sep s from more (record { place = record { at = from; len = to - from }; next = to + 1; more = true })
-    next_more h =
-        record { is = rw cut_left; on = omega arith; behind = rw (cut_left, lt-ltb to (length s) h) }
+        → Next sep s (Some from) (record { place = record { at = from; len = to - from }; next = Some (to + 1) })
+    next_more h = record { is = rw cut_left; on = omega arith; behind = rw (cut_left, lt-ltb to (length s) h) }
 
     pub next_last : length s ≤ to
-        → Next sep s from more (record { place = record { at = from; len = to - from }; next = to; more = false })
+        → Next sep s (Some from) (record { place = record { at = from; len = to - from }; next = None })
     unfolding places_from
-    next_last h =
-        record { is = rw cut_left; on = ends.high; behind = rw (cut_left, le-ltb to (length s) h) }
+    next_last h = record { is = rw cut_left; on = tt; behind = rw (cut_left, le-ltb to (length s) h) }
 
 -- ---- how many there are
 
@@ -106,21 +138,20 @@ length_places at [] = refl
 length_places at (p ∷ ps) = ap suc (length_places (at + length p + 1) ps)
 
 -- text has at least one piece, so what is left is none exactly where there are no more
-pub left_few : (sep : ℕ) (more : Bool) (k n : ℕ) (s : List ℕ)
-    → places_left sep more k s ≡ drop n (places_of sep s) → leb (length (split sep (drop 4 s))) n ≡ not more
-left_few sep more k n s e = go more e
-  where
-    rest : length (drop n (places_of sep s)) ≡ length (split sep (drop 4 s)) - n
-    rest =
-        length-drop n (places_of sep s)
-        ∙ ap (λ (i : ℕ). i - n) (length_places 4 (split sep (drop 4 s)))
+module _ (sep n : ℕ) (s : List ℕ) where
+  rest : length (drop n (places_of sep s)) ≡ length (split sep (drop 4 s)) - n
+  rest =
+      length-drop n (places_of sep s)
+      ∙ ap (λ (i : ℕ). i - n) (length_places 4 (split sep (drop 4 s)))
 
-    go : (t : Bool) → places_left sep t k s ≡ drop n (places_of sep s)
-        → leb (length (split sep (drop 4 s))) n ≡ not t
-    go false f = le-leb (length (split sep (drop 4 s))) n (omega (arith, rest, ap length f, length_places k []))
-    go true f =
-        lt-leb (length (split sep (drop 4 s))) n
-        (omega (arith, rest, ap length f, length_places k (split sep (drop k s)), split_some sep (drop k s)))
+  pub left_none : places_left sep None s ≡ drop n (places_of sep s) → leb (length (split sep (drop 4 s))) n ≡ true
+  left_none f = le-leb (length (split sep (drop 4 s))) n (omega (arith, rest, ap length f))
+
+  pub left_some : (k : ℕ) → places_left sep (Some k) s ≡ drop n (places_of sep s)
+      → leb (length (split sep (drop 4 s))) n ≡ false
+  left_some k f =
+      lt-leb (length (split sep (drop 4 s))) n
+      (omega (arith, rest, ap length f, length_places k (split sep (drop k s)), split_some sep (drop k s)))
 
 -- ---- columns, at column j
 

@@ -61,7 +61,7 @@ module _ (s : List ℕ) (some : length s ≡ 0 → ⊥) where
 -- ---- any column
 
 module _ (sep : ℕ) (c : Column) where
-  pub piece_empty : (s : List ℕ) → length s ≡ 0 → piece_fits sep c s ≡ not c.2
+  pub piece_empty : (s : List ℕ) → length s ≡ 0 → piece_fits sep c s ≡ not c.required
   unfolding piece_fits
   piece_empty [] e = refl
   piece_empty (b ∷ bs) e = absurd (omega arith)
@@ -78,7 +78,7 @@ unfolding said_in
 said_empty c at = refl
 
 pub said_value : (c : Column) (at : ℕ) (s : List ℕ) → (length s ≡ 0 → ⊥)
-    → said_in c at s ≡ cond (is_number c.0) (number_said (numeral_in c.0 s)) (text_said at (length s) c.1)
+    → said_in c at s ≡ cond (is_number c.form) (number_said (numeral_in c.form s)) (text_said at (length s) c.most)
 unfolding said_in
 said_value c at [] h = absurd (h refl)
 said_value c at (b ∷ bs) h = refl
@@ -99,9 +99,9 @@ numeral_least form s n e t = (date_only s n (dated_is (date_of s) n (rw t at e))
 
 -- a number in range is none that says so, where a time is not 0
 pub record Ranged (c : Column) : Type 0 where
-  pub least : (n : ℕ) → is_time c.0 ≡ true → not (is_flag c.0 c.3 n) ≡ true → 1 ≤ n
-  pub unflagged : (n : ℕ) → is_number c.0 ≡ true → (is_time c.0 ≡ true → 1 ≤ n) → n ≤ c.1
-      → is_flag c.0 c.3 n ≡ false
+  pub least : (n : ℕ) → is_time c.form ≡ true → not (is_flag c.form c.flag n) ≡ true → 1 ≤ n
+  pub unflagged : (n : ℕ) → is_number c.form ≡ true → (is_time c.form ≡ true → 1 ≤ n) → n ≤ c.most
+      → is_flag c.form c.flag n ≡ false
 
 -- all ones are past the range
 count_unflagged : (ones most : ℕ) (flag : Flag) → count_sound ones most flag ≡ true → (n : ℕ) → n ≤ most
@@ -141,11 +141,11 @@ form_unflagged form.Time most flag ok n f t h =
 form_unflagged C1 most flag ok n f t h = false_true f
 form_unflagged Cn most flag ok n f t h = false_true f
 
-pub ranged : (c : Column) → form_sound c.0 c.1 c.3 ≡ true → Ranged c
+pub ranged : (c : Column) → form_sound c.form c.most c.flag ≡ true → Ranged c
 ranged c ok =
     record {
-      least = form_least c.0 c.1 c.3 ok;
-      unflagged = form_unflagged c.0 c.1 c.3 ok;
+      least = form_least c.form c.most c.flag ok;
+      unflagged = form_unflagged c.form c.most c.flag ok;
     }
 
 pub number_small : (most n : ℕ) (x : Option ℕ) → x ≡ Some n → number_fits most x ≡ true → n ≤ most
@@ -171,18 +171,18 @@ module _ (at len most : ℕ) (s : List ℕ) (h : at + len ≤ length s) (few : m
   text_holds : Holds s (said.Text (record { at = at; len = min len most })) (Text (take most (part at len s)))
   text_holds = keep_cases (leb len most) refl
 
-short_most : (c : Column) → short c ≡ true → is_number c.0 ≡ false → c.1 ≤ 255
-short_most c e f = leb-true c.1 255 (rw f at e)
+short_most : (c : Column) → short c ≡ true → is_number c.form ≡ false → c.most ≤ 255
+short_most c e f = leb-true c.most 255 (rw f at e)
 
 -- what a piece says at its place holds what it says
 module _ (s : List ℕ) (c : Column) (n : Name) (h : n.at + n.len ≤ length s) (few : short c ≡ true) where
-  value_holds : (b : ℕ) (bs : List ℕ) → named s n ≡ b ∷ bs → (t : Bool) → is_number c.0 ≡ t
+  value_holds : (b : ℕ) (bs : List ℕ) → named s n ≡ b ∷ bs → (t : Bool) → is_number c.form ≡ t
       → Holds s (said_in c n.at (b ∷ bs)) (entry_in c (b ∷ bs))
   unfolding said_in entry_in
-  value_holds b bs e true f = rw f (number_holds s (numeral_in c.0 (b ∷ bs)))
+  value_holds b bs e true f = rw f (number_holds s (numeral_in c.form (b ∷ bs)))
   value_holds b bs e false f =
       let size : length (b ∷ bs) ≡ n.len = ap length (sym e) ∙ length_part n.at n.len s h in
-      rw (f, size) (rw e at (text_holds n.at n.len c.1 s h (short_most c few f)))
+      rw (f, size) (rw e at (text_holds n.at n.len c.most s h (short_most c few f)))
 
   pub said_holds : Holds s (said_in c n.at (named s n)) (entry_in c (named s n))
   unfolding said_in entry_in
@@ -190,15 +190,15 @@ module _ (s : List ℕ) (c : Column) (n : Name) (h : n.at + n.len ≤ length s) 
     where
       go : (p : List ℕ) → named s n ≡ p → Holds s (said_in c n.at p) (entry_in c p)
       go [] e = record { says = refl; there = tt }
-      go (b ∷ bs) e = value_holds b bs e (is_number c.0) refl
+      go (b ∷ bs) e = value_holds b bs e (is_number c.form) refl
 
 -- every column of text is short, since its table is sound
 short_sane : (c : Column) → Sane c → short c ≡ true
-short_sane c ok = go (is_number c.0) refl
+short_sane c ok = go (is_number c.form) refl
   where
-    go : (t : Bool) → is_number c.0 ≡ t → short c ≡ true
+    go : (t : Bool) → is_number c.form ≡ t → short c ≡ true
     go true f = rw f
-    go false f = rw (f, le-leb c.1 255 (ok.short f))
+    go false f = rw (f, le-leb c.most 255 (ok.short f))
 
 short_all : (k : ℕ) (cs : List Column) → table_sound k cs ≡ true → each short cs ≡ true
 short_all k [] ok = refl

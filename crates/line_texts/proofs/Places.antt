@@ -11,7 +11,7 @@ use Rattle.prelude.specs.Each.{each}
 use Rattle.prelude.proofs.Both.{both_left, both_right}
 use Rattle.values.specs.declared.Name.{Name}
 use Rattle.line_layouts.specs.declared.Tag.{Tag}
-use Rattle.line_layouts.specs.declared.Field.{Field}
+use Rattle.line_layouts.specs.declared.Said.{Said}
 use Rattle.line_layouts.specs.declared.Column.{Column}
 use Rattle.line_layouts.specs.Columns.{columns, no_column, most_columns, back}
 use Rattle.line_layouts.specs.Entries.{Entry, named, meaning_of, no_field, no_fields, padded, AllWithin}
@@ -19,10 +19,9 @@ use Rattle.line_layouts.proofs.Arranging.{length_arranged, arranged_in, arranged
 use Rattle.line_layouts.proofs.Tables.{turned}
 use Rattle.line_layouts.proofs.Laid.{most_columns_lem, back_inside}
 use Rattle.line_layouts.proofs.Fills.{map_take, padded_at, length_padded, stored_all, says, Withins}
-use Rattle.line_texts.specs.declared.Cut.{Cut}
 use Rattle.line_texts.specs.Pieces.{split, gathered, entry_in, entries_in}
 use Rattle.line_texts.specs.Places.{no_place, places_from, places_of, places_in, said_in, fields_in, line_in}
-use Rattle.line_texts.specs.Places.{short, CutAt}
+use Rattle.line_texts.specs.Places.{short, CutInto}
 use Rattle.line_texts.proofs.Joins.{joined, lined, split_lined}
 use Rattle.line_texts.proofs.Fits.{said_holds, short_columns}
 
@@ -77,10 +76,10 @@ length_gathered tag ps = length_arranged (List ℕ) [] (back tag) ps ∙ (turned
 pub length_places_in : (sep : ℕ) (s : List ℕ) (tag : Tag) → length (places_in sep s tag) ≡ length (columns tag)
 length_places_in sep s tag = length_arranged Name no_place (back tag) (places_of sep s) ∙ (turned tag).back_all
 
-module _ (sep : ℕ) (s : List ℕ) (tag : Tag) (cut : Cut) (cuts : CutAt sep s tag cut) (j : ℕ)
+module _ (sep : ℕ) (s : List ℕ) (tag : Tag) (places : List Name) (cuts : CutInto sep s tag places) (j : ℕ)
     (h : j < length (columns tag)) where
   abbrev place : Name
-  place = get_or cut.places (get_or (back tag) j 0) no_place
+  place = get_or places (get_or (back tag) j 0) no_place
 
   found : place ≡ get_or (places_of sep s) (get_or (back tag) j 0) no_place
   found = cuts.is (get_or (back tag) j 0) (back_inside tag j h)
@@ -110,7 +109,7 @@ module _ (s : List ℕ) where
 
   pub field_at_lem : (cs : List Column) (ns : List Name) (j : ℕ) → length ns ≡ length cs → j < length cs
       → get_or (fields_in s cs ns) j no_field
-      ≡ record { said = said_in (get_or cs j no_column) (get_or ns j no_place).at (named s (get_or ns j no_place)) }
+      ≡ said_in (get_or cs j no_column) (get_or ns j no_place).at (named s (get_or ns j no_place))
   unfolding fields_in
   field_at_lem [] ns j e h = absurd (omega arith)
   field_at_lem (c ∷ cs) [] j e h = absurd (omega arith)
@@ -142,19 +141,19 @@ module _ (s : List ℕ) where
 -- ---- the line
 
 module _ (sep : ℕ) (s : List ℕ) (tag : Tag) where
-  abbrev pub fields : List Field
+  abbrev pub fields : List Said
   fields = fields_in s (columns tag) (places_in sep s tag)
 
   pub length_all : length fields ≡ length (columns tag)
   length_all = length_fields s (columns tag) (places_in sep s tag) (length_places_in sep s tag)
 
   -- fields filled one by one, each where its column is, are those of the line
-  pub filled_all : (fs : List Field) (j : ℕ) → length (columns tag) ≤ j → length fs ≡ most_columns
+  pub filled_all : (fs : List Said) (j : ℕ) → length (columns tag) ≤ j → length fs ≡ most_columns
       → ((i : ℕ) → get_or fs i no_field ≡ get_or (take j fields) i no_field)
       → record { tag = tag; fields = fs } ≡ line_in sep s tag
   unfolding line_in
   filled_all fs j h full all =
-      ap (λ (l : List Field). record { tag = tag; fields = l })
+      ap (λ (l : List Said). record { tag = tag; fields = l })
       (stored_all fields fs j (omega (arith, length_all)) (omega (arith, length_all, most_columns_lem tag)) full all)
 
   module _ (long : 4 ≤ length s) where

@@ -1,10 +1,12 @@
 -- Laws of a line as a whole: its ending, its tag, fields beside another, and what this code holds of it.
 -- Assumes nothing.
-use Rattle.std.specs.Prelude.{Option, Some, None}
+use Rattle.std.specs.Prelude.{Option, Some, None, Result}
+use Rattle.std.specs.List.{find}
+use Rattle.answers.specs.declared.Answer.{Answer}
 use mathlib.Core.Path.{◌≡◌, refl, ap, sym, subst, ◌∙◌}
 use mathlib.Core.Bool.{Bool, true, false, not, ◌&&◌, ◌||◌}
 use mathlib.Core.List.{List, [], ◌∷◌}
-use Prim.Native.Nat.{ℕ, ◌+◌, ◌≤◌, ◌<◌}
+use Prim.Native.Nat.{ℕ, ◌+◌, ◌-◌, ◌≤◌, ◌<◌}
 use native.Mathlib.Numerals.{add-one}
 use native.Mathlib.Omega.{arith}
 use borrow.Author.Tests.{eq-eqb, ne_eqb}
@@ -20,7 +22,6 @@ use Rattle.line_layouts.specs.declared.Said.{Said}
 use Rattle.line_layouts.specs.declared.Said.TheVariants as said
 use Rattle.line_layouts.specs.declared.Line.{Line}
 use Rattle.line_layouts.specs.declared.Column.{Column}
-use Rattle.line_layouts.specs.declared.Judged.{Judged}
 use Rattle.line_layouts.specs.Columns.{line_feed, carriage_return, tag_text, columns, no_column, most_columns}
 use Rattle.line_layouts.specs.Entries.{Entry, Missing, Meaning, entry_of, entries_of, meaning_of, no_field, is_missing}
 use Rattle.line_layouts.specs.Entries.{AllWithin}
@@ -75,49 +76,13 @@ ending_empty [] e = refl
 ending_empty (b ∷ bs) e = absurd (omega arith)
 
 -- one byte is not two
-pub ending_two : (s : List ℕ) → (length s ≡ 0 → ⊥) → from_end 2 s ≡ carriage_return → from_end 1 s ≡ line_feed
-    → 2 ≤ length s
-ending_two [] some e f = absurd (some refl)
-ending_two (b ∷ []) some e f = absurd (omega (arith, e, f))
-ending_two (b ∷ c ∷ bs) some e f = omega arith
+pub ending_alone : (s : List ℕ) → length s ≡ 1 → from_end 1 s ≡ line_feed → ending s ≡ 1
+ending_alone s one e =
+    let last : length s - 2 ≡ length s - 1 = omega arith in
+    let other : from_end 2 s ≡ carriage_return → ⊥ = λ f. absurd (omega (arith, rw last at f)) in
+    ending_feed s other e
 
 -- ---- its tag
-
-and_true : (t : Bool) → (t && true) ≡ t
-and_true true = refl
-and_true false = refl
-
-module _ (a b c d : ℕ) where
-  pub starts_short : (s : List ℕ) → length s < 4 → starts (a ∷ b ∷ c ∷ d ∷ []) s ≡ false
-  starts_short [] h = refl
-  starts_short (w ∷ []) h = and_no (eqb w a)
-    where
-      and_no : (t : Bool) → (t && false) ≡ false
-      and_no true = refl
-      and_no false = refl
-  starts_short (w ∷ x ∷ []) h = and_no (eqb w a) (eqb x b)
-    where
-      and_no : (t u : Bool) → (t && (u && false)) ≡ false
-      and_no true true = refl
-      and_no true false = refl
-      and_no false u = refl
-  starts_short (w ∷ x ∷ y ∷ []) h = and_no (eqb w a) (eqb x b) (eqb y c)
-    where
-      and_no : (t u v : Bool) → (t && (u && (v && false))) ≡ false
-      and_no true true true = refl
-      and_no true true false = refl
-      and_no true false v = refl
-      and_no false u v = refl
-  starts_short (w ∷ x ∷ y ∷ z ∷ s) h = absurd (omega arith)
-
-  pub starts_long : (s : List ℕ) → 4 ≤ length s
-      → starts (a ∷ b ∷ c ∷ d ∷ []) s
-      ≡ (eqb (get_or s 0 0) a && (eqb (get_or s 1 0) b && (eqb (get_or s 2 0) c && eqb (get_or s 3 0) d)))
-  starts_long [] h = absurd (omega arith)
-  starts_long (w ∷ []) h = absurd (omega arith)
-  starts_long (w ∷ x ∷ []) h = absurd (omega arith)
-  starts_long (w ∷ x ∷ y ∷ []) h = absurd (omega arith)
-  starts_long (w ∷ x ∷ y ∷ z ∷ s) h = rw (and_true (eqb z d))
 
 -- a text that begins with four bytes has them
 pub starts_four : (t s : List ℕ) → starts t s ≡ true → length t ≤ length s
@@ -125,23 +90,12 @@ starts_four [] s e = omega arith
 starts_four (x ∷ t) [] e = false_true e
 starts_four (x ∷ t) (b ∷ s) e = omega (arith, starts_four t s (both_right (eqb b x) (starts t s) e))
 
--- the tags that are still to be tried
-pub record Untried (s : List ℕ) (tags : List Tag) : Type 0 where
-  pub is : tag_of s ≡ tag_among tags s
+abbrev pub all_tags : List Tag
+all_tags = Pcr ∷ Hbr ∷ Sbr ∷ Wir ∷ Wrr ∷ []
 
-pub tags_all : (s : List ℕ) → Untried s (Pcr ∷ Hbr ∷ Sbr ∷ Wir ∷ Wrr ∷ [])
+pub tag_found : (s : List ℕ) → find (λ (tag : Tag). starts (tag_text tag) s) all_tags ≡ tag_of s
 unfolding tag_of
-tags_all s = record { is = refl }
-
-module _ {s : List ℕ} {tag : Tag} {tags : List Tag} (so_far : Untried s (tag ∷ tags)) where
-  pub tag_hit : starts (tag_text tag) s ≡ true → Some tag ≡ tag_of s
-  tag_hit e = sym (so_far.is ∙ rw e)
-
-  pub tag_other : starts (tag_text tag) s ≡ false → Untried s tags
-  tag_other e = record { is = so_far.is ∙ rw e }
-
-pub tag_none : {s : List ℕ} → Untried s [] → None ≡ tag_of s
-tag_none so_far = sym so_far.is
+tag_found s = refl
 
 -- ---- a field beside another, wherever it stands
 
@@ -184,23 +138,23 @@ sitting_first line source = (refl, refl)
 module _ (line : Line) (full : length line.fields ≡ most_columns) (j : ℕ) (gone : Bool)
     (so_far : Sitting line j gone) where
   abbrev none : Bool
-  none = is_missing (get_or line.fields j no_field).said
+  none = is_missing (get_or line.fields j no_field)
 
   module _ (h : j < length (columns line.tag)) (source : List ℕ) where
     none_at : is_none (get_or (entries_of source line) j Missing) ≡ none
     none_at =
-        ap is_none (said_at source line full j h) ∙ none_missing source (get_or line.fields j no_field).said
+        ap is_none (said_at source line full j h) ∙ none_missing source (get_or line.fields j no_field)
 
     one_at : sits_one (get_or (columns line.tag) j no_column) (last_of (entries_of source line) j)
         (get_or (entries_of source line) j Missing)
-        ≡ (not (is_beside (get_or (columns line.tag) j no_column).3) || agree gone none)
+        ≡ (not (is_beside (get_or (columns line.tag) j no_column).flag) || agree gone none)
     one_at = rw (← (so_far source).0, none_at)
 
     inside : j < length (entries_of source line)
     inside = omega (arith, length_entries source line full)
 
   module _ (h : j < length (columns line.tag)) where
-    pub sitting_no : (not (is_beside (get_or (columns line.tag) j no_column).3) || agree gone none) ≡ false
+    pub sitting_no : (not (is_beside (get_or (columns line.tag) j no_column).flag) || agree gone none) ≡ false
         → Sited line false
     sitting_no e =
         record {
@@ -208,7 +162,7 @@ module _ (line : Line) (full : length line.fields ≡ most_columns) (j : ℕ) (g
               ∙ sits_no (columns line.tag) (entries_of source line) j h (inside h source) (one_at h source ∙ e));
         }
 
-    pub sitting_on : (not (is_beside (get_or (columns line.tag) j no_column).3) || agree gone none) ≡ true
+    pub sitting_on : (not (is_beside (get_or (columns line.tag) j no_column).flag) || agree gone none) ≡ true
         → Sitting line (j + 1) none
     sitting_on e source = (
       rw (add-one j) (sym (none_at h source)),
@@ -296,7 +250,8 @@ module _ (s : List ℕ) (tag : Tag) where
       go later false f = later (rw f at e)
 
   pub tag_four : tag_of s ≡ Some tag → 4 ≤ length s
-  tag_four e = let all = tags_all s in among_four (Pcr ∷ Hbr ∷ Sbr ∷ Wir ∷ Wrr ∷ []) (sym all.is ∙ e)
+  unfolding tag_of
+  tag_four e = among_four all_tags e
 
 -- ---- what this code holds of it
 
@@ -320,8 +275,8 @@ module _ (sep : ℕ) (s : List ℕ) where
 pub content_taken : ContentTaken
 unfolding content_held
 content_taken sep s j e =
-    subst (λ (k : Judged). Taken s (content_means sep s) k) (sym e)
+    subst (λ (k : Result Line Answer). Taken s (content_means sep s) k) (sym e)
     (taken_held s (line_of sep s) (content_means sep s) (content_held_lem sep s))
 
 pub judged_once : JudgedOnce
-judged_once sep s = equation Judged (content_held sep s)
+judged_once sep s = equation (Result Line Answer) (content_held sep s)

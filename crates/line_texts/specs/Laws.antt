@@ -10,15 +10,16 @@
 --   ContentTaken   what this code holds of a line means what the line means, by bytes that are there
 --   JudgedOnce     and nothing of it is left open
 -- Assumes nothing.
-use Rattle.std.specs.Prelude.{◌≡◌, Bool, true, false, ◌&&◌, List, [], ◌∷◌, ℕ}
+use Rattle.std.specs.Prelude.{◌≡◌, Bool, true, false, ◌&&◌, List, [], ◌∷◌, ℕ, Result}
 use Rattle.prelude.specs.Once.{Once}
+use Rattle.answers.specs.declared.Answer.{Answer}
 use Rattle.line_layouts.specs.declared.Column.{Column}
 use Rattle.line_layouts.specs.Columns.{separator, columns}
 use Rattle.line_layouts.specs.Names.{entry_allowed, separates}
 use Rattle.line_layouts.specs.Entries.{Entry, Missing, Meaning}
 use Rattle.line_layouts.specs.Layouts.{text_by, text_of}
 use Rattle.line_layouts.specs.Fitting.{entry_fits, sits, given}
-use Rattle.line_layouts.specs.declared.Judged.{Judged}
+use Rattle.line_layouts.specs.declared.Line.{Line}
 use Rattle.line_layouts.specs.Judging.{Says, Taken}
 use Rattle.line_texts.specs.Texts.{content_means, line_meaning_by, line_meaning}
 use Rattle.line_texts.specs.Places.{content_held}
@@ -57,11 +58,11 @@ ReadAgain = (line : List ℕ) (m : Meaning) → line_meaning line ≡ Says m →
 
 -- ---- as this code holds it
 
-abbrev pub JudgePromise : ℕ → List ℕ → Judged → Type 0
+abbrev pub JudgePromise : ℕ → List ℕ → Result Line Answer → Type 0
 JudgePromise sep s j = j ≡ content_held sep s
 
 abbrev pub ContentTaken : Type 0
-ContentTaken = (sep : ℕ) (s : List ℕ) (j : Judged) → JudgePromise sep s j → Taken s (content_means sep s) j
+ContentTaken = (sep : ℕ) (s : List ℕ) (j : Result Line Answer) → JudgePromise sep s j → Taken s (content_means sep s) j
 
 -- "How the promises are held to account": no two different outcomes satisfy it
 abbrev pub JudgedOnce : Type 0

@@ -58,16 +58,16 @@ number_in None = Missing
 -- of a name every byte, cut ones too, must be allowed; P/F counts by its first character
 abbrev pub value_fits : ℕ → Column → List ℕ → Bool
 value_fits sep c p =
-    cond (is_number c.0) (number_fits c.1 (numeral_in c.0 p))
-    (cond (is_name c.0) (each (allowed sep) p) (letter_fits p))
+    cond (is_number c.form) (number_fits c.most (numeral_in c.form p))
+    (cond (is_name c.form) (each (allowed sep) p) (letter_fits p))
 
 -- a name over 255 bytes is cut to 255, P/F to its first
 abbrev pub value_in : Column → List ℕ → Entry
-value_in c p = cond (is_number c.0) (number_in (numeral_in c.0 p)) (Text (take c.1 p))
+value_in c p = cond (is_number c.form) (number_in (numeral_in c.form p)) (Text (take c.most p))
 
 -- a required one empty does not fit
 unfoldable pub piece_fits : ℕ → Column → List ℕ → Bool
-piece_fits sep c [] = not c.2
+piece_fits sep c [] = not c.required
 piece_fits sep c (b ∷ bs) = value_fits sep c (b ∷ bs)
 
 unfoldable pub entry_in : Column → List ℕ → Entry

@@ -74,9 +74,9 @@ module _ (ends : Order) where
   laid_in cs es = laid (layout.Record ends) cs es
 
   laid_cons : (c : Column) (cs : List Column) (e : Entry) (es : List Entry)
-      → length (laid_in (c ∷ cs) (e ∷ es)) ≡ length (stored ends c.0 e) + length (laid_in cs es)
+      → length (laid_in (c ∷ cs) (e ∷ es)) ≡ length (stored ends c.form e) + length (laid_in cs es)
   unfolding laid
-  laid_cons c cs e es = length-append (stored ends c.0 e) (laid_in cs es)
+  laid_cons c cs e es = length-append (stored ends c.form e) (laid_in cs es)
 
   laid_none : (cs : List Column) → laid_in cs [] ≡ []
   unfolding laid
@@ -84,7 +84,7 @@ module _ (ends : Order) where
   laid_none (c ∷ cs) = refl
 
   laid_kept : (c : Column) (cs : List Column) (k : ℕ) (e : Entry) (es : List Entry)
-      → length (laid_in (c ∷ cs) (kept k e es)) ≤ length (stored ends c.0 e) + length (laid_in cs es)
+      → length (laid_in (c ∷ cs) (kept k e es)) ≤ length (stored ends c.form e) + length (laid_in cs es)
   laid_kept c cs zero Missing [] = omega (arith, ap length (laid_none (c ∷ cs)))
   laid_kept c cs zero Missing (x ∷ es) = omega (arith, laid_cons c cs Missing (x ∷ es))
   laid_kept c cs zero (Number n) es = omega (arith, laid_cons c cs (Number n) es)
@@ -94,7 +94,7 @@ module _ (ends : Order) where
 -- the longest body of columns
 abbrev total : List Column → ℕ
 total [] = 0
-total (c ∷ cs) = room c.0 c.1 + total cs
+total (c ∷ cs) = room c.form c.most + total cs
 
 laid_most : (ends : Order) (k : ℕ) (cs : List Column) (es : List Entry) → table_sound k cs ≡ true
     → entries_fit cs es ≡ true → length (laid_in ends cs (present k es)) ≤ total cs
@@ -102,7 +102,7 @@ laid_most ends k [] [] s e = omega (arith, ap length (laid_none ends []))
 laid_most ends k [] (x ∷ es) s e = false_true e
 laid_most ends k (c ∷ cs) [] s e = false_true e
 laid_most ends k (c ∷ cs) (x ∷ es) s e =
-    let here = stored_room ends c.0 c.1 c.3 x (form_sound_lem k c cs s)
+    let here = stored_room ends c.form c.most c.flag x (form_sound_lem k c cs s)
     (both_left (entry_fits c x) (entries_fit cs es) e) in
     let behind = laid_most ends (k - 1) cs es (rest_sound k c cs s) (both_right (entry_fits c x)
     (entries_fit cs es) e) in

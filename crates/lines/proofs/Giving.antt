@@ -35,7 +35,7 @@ giving_first line source = refl
 
 module _ (line : Line) (full : length line.fields ≡ most_columns) (j : ℕ) (so_far : Giving line j) where
   abbrev here : Bool
-  here = said_given (get_or (columns line.tag) j no_column) (get_or line.fields j no_field).said
+  here = said_given (get_or (columns line.tag) j no_column) (get_or line.fields j no_field)
 
   module _ (h : j < length (columns line.tag)) where
     one : (source : List ℕ)
@@ -43,7 +43,7 @@ module _ (line : Line) (full : length line.fields ≡ most_columns) (j : ℕ) (s
         ≡ (here && all_given (drop (j + 1) (columns line.tag)) (drop (j + 1) (entries_of source line)))
     one source =
         let es = entries_of source line in
-        let f = (get_or line.fields j no_field).said in
+        let f = (get_or line.fields j no_field) in
         so_far source
         ∙ rw (
           drop-cons (columns line.tag) j no_column h,

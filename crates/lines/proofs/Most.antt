@@ -44,7 +44,7 @@ digits_rising =
 
 -- the longest text of a column; a date has at most 20 bytes
 abbrev most : Column → ℕ
-most c = cond (is_time c.0) 20 (cond (is_number c.0) (length (digits c.1)) c.1)
+most c = cond (is_time c.form) 20 (cond (is_number c.form) (length (digits c.most)) c.most)
 
 text_untimed : (form : Form) → is_number form ≡ false → is_time form ≡ false
 text_untimed U1 f = refl
@@ -54,26 +54,26 @@ text_untimed Time f = f
 text_untimed C1 f = refl
 text_untimed Cn f = refl
 
-entry_most : (c : Column) (e : Entry) → entry_fits c e ≡ true → length (entry_text c.0 e) ≤ most c
+entry_most : (c : Column) (e : Entry) → entry_fits c e ≡ true → length (entry_text c.form e) ≤ most c
 entry_most c Missing e = omega arith
-entry_most c (Number n) e = go (is_time c.0) refl
+entry_most c (Number n) e = go (is_time c.form) refl
   where
     plain : Bool
-    plain = not (is_flag c.0 c.3 n)
+    plain = not (is_flag c.form c.flag n)
 
-    small : n ≤ c.1
-    small = leb-true n c.1 (both_left (leb n c.1) plain (both_right (is_number c.0) (leb n c.1 && plain) e))
+    small : n ≤ c.most
+    small = leb-true n c.most (both_left (leb n c.most) plain (both_right (is_number c.form) (leb n c.most && plain) e))
 
-    go : (t : Bool) → is_time c.0 ≡ t → length (entry_text c.0 (Number n)) ≤ most c
+    go : (t : Bool) → is_time c.form ≡ t → length (entry_text c.form (Number n)) ≤ most c
     go true f = rw f (date_size n).1
-    go false f = rw (f, both_left (is_number c.0) (leb n c.1 && plain) e) (digits_rising c.1 n small)
+    go false f = rw (f, both_left (is_number c.form) (leb n c.most && plain) e) (digits_rising c.most n small)
 entry_most c (Text []) e = false_true e
 entry_most c (Text (b ∷ bs)) e =
-    let rule = is_name c.0 || letter_fits (b ∷ bs) in
-    let size = leb (length (b ∷ bs)) c.1 in
-    let f = not-true (is_number c.0) (both_left (not (is_number c.0)) (size && rule) e) in
-    rw (text_untimed c.0 f, f)
-    (leb-true (length (b ∷ bs)) c.1 (both_left size rule (both_right (not (is_number c.0)) (size && rule) e)))
+    let rule = is_name c.form || letter_fits (b ∷ bs) in
+    let size = leb (length (b ∷ bs)) c.most in
+    let f = not-true (is_number c.form) (both_left (not (is_number c.form)) (size && rule) e) in
+    rw (text_untimed c.form f, f)
+    (leb-true (length (b ∷ bs)) c.most (both_left size rule (both_right (not (is_number c.form)) (size && rule) e)))
 
 module _ (sep : ℕ) where
   abbrev laid_text : List Column → List Entry → List ℕ
@@ -81,11 +81,11 @@ module _ (sep : ℕ) where
 
   -- a field, then the rest
   laid_cons : (c : Column) (cs : List Column) (e : Entry) (es : List Entry)
-      → length (laid_text (c ∷ cs) (e ∷ es)) ≡ length (entry_text c.0 e) + 1 + length (laid_text cs es)
+      → length (laid_text (c ∷ cs) (e ∷ es)) ≡ length (entry_text c.form e) + 1 + length (laid_text cs es)
   unfolding laid
   laid_cons c cs e es =
-      length-append (entry_text c.0 e ++ mark sep (is_last es) ∷ []) (laid_text cs es)
-      ∙ omega (arith, length-append (entry_text c.0 e) (mark sep (is_last es) ∷ []))
+      length-append (entry_text c.form e ++ mark sep (is_last es) ∷ []) (laid_text cs es)
+      ∙ omega (arith, length-append (entry_text c.form e) (mark sep (is_last es) ∷ []))
 
   laid_none : (cs : List Column) → laid_text cs [] ≡ []
   unfolding laid
@@ -93,7 +93,7 @@ module _ (sep : ℕ) where
   laid_none (c ∷ cs) = refl
 
   laid_kept : (c : Column) (cs : List Column) (e : Entry) (es : List Entry)
-      → length (laid_text (c ∷ cs) (kept 0 e es)) ≤ length (entry_text c.0 e) + 1 + length (laid_text cs es)
+      → length (laid_text (c ∷ cs) (kept 0 e es)) ≤ length (entry_text c.form e) + 1 + length (laid_text cs es)
   laid_kept c cs Missing [] = omega (arith, ap length (laid_none (c ∷ cs)))
   laid_kept c cs Missing (x ∷ es) = omega (arith, laid_cons c cs Missing (x ∷ es))
   laid_kept c cs (Number n) es = omega (arith, laid_cons c cs (Number n) es)

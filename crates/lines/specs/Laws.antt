@@ -142,8 +142,8 @@ long_date = 813_600
 -- a number of the most digits, P, a name of 255 bytes
 abbrev pub longest_in : Column → Entry
 longest_in c =
-    cond (is_time c.0) (Number long_date)
-    (cond (is_number c.0) (Number c.1) (Text (replicate c.1 (code "P"))))
+    cond (is_time c.form) (Number long_date)
+    (cond (is_number c.form) (Number c.most) (Text (replicate c.most (code "P"))))
 
 -- every field at its longest
 unfoldable pub longest : Tag → Meaning

@@ -47,7 +47,7 @@ line_written cpu s old at = placed (text_for cpu s) old at
 -- ---- what is given, as this code holds it
 
 abbrev pub said_given : Column → Said → Bool
-said_given c f = not (is_missing f && c.2)
+said_given c f = not (is_missing f && c.required)
 
 -- wherever the bytes that its fields name stand
 pub record Gives (line : Line) (r : Bool) : Type 0 where

@@ -4,10 +4,9 @@ ghost use Rattle.output.specs.Placed.{outcome, placed};
 ghost use Rattle.line_texts.specs.Texts.{content_means, line_meaning_by};
 ghost use Rattle.lines.specs.Reading.{record_made};
 
-use crate::refuse;
 use answers::Answer;
 use line_laying::place;
-use line_layouts::{Fault, Layout};
+use line_layouts::Layout;
 use line_texts::contents::{ending_of, judge_content};
 use numbers::Order;
 
@@ -15,13 +14,8 @@ fn read_content(out: &mut [u8], at: usize, order: Order, sep: u8, s: &[u8]) -> R
     ensures { outcome result out.new
         ≡ placed (record_made order (content_means sep s.now)) out.old at }
 {
-    let judged = judge_content(s, sep);
-    let fault = judged.fault;
-    let line = judged.line;
-    match fault {
-        Fault::Found(answer) => refuse(out, answer),
-        Fault::None => place(out, at, Layout::Record(order), s, line),
-    }
+    let line = judge_content(s, sep)?;
+    place(out, at, Layout::Record(order), s, line)
 }
 
 pub fn read_in(

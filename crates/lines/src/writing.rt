@@ -9,13 +9,12 @@ ghost use Rattle.line_records.specs.Records.{meaning};
 ghost use Rattle.line_layouts.specs.Names.{entry_allowed};
 ghost use Rattle.lines.specs.Writing.{text_made, said_given, Gives};
 
-use crate::refuse;
 use answers::Answer;
 use line_laying::place;
-use line_layouts::columns::{column_at, column_count};
-use line_layouts::judging::{is_missing, said_at};
+use line_layouts::columns::{column_count, columns};
+use line_layouts::judging::is_missing;
 use line_layouts::names::part_allowed;
-use line_layouts::{Column, Fault, Layout, Line, Said};
+use line_layouts::{Column, Layout, Line, Said};
 use line_records::judge_record;
 use numbers::Order;
 
@@ -23,21 +22,17 @@ use numbers::Order;
 fn said_given(column: Column, said: Said) -> bool
     ensures { result ≡ said_given column said }
 {
-    if is_missing(said) { !column.2 } else { true }
+    !(column.required && is_missing(said))
 }
 
 fn line_given(line: Line) -> bool
     requires { length line.fields ≡ most_columns }
     ensures { Gives line result }
 {
-    let tag = line.tag;
-    let count = column_count(tag);
-    let mut j: usize = 0;
-    while j < count {
-        if !said_given(column_at(tag, j), said_at(line, j)) {
+    for (j, column) in columns(line.tag).iter().enumerate() {
+        if !said_given(*column, line.fields[j]) {
             return false;
         }
-        j += 1;
     }
     true
 }
@@ -47,13 +42,8 @@ fn said_allowed(sep: u8, source: &[u8], said: Said) -> bool
     ensures { result ≡ entry_allowed sep (entry_of source.now said) }
 {
     match said {
-        Said::Missing => true,
-        Said::Number(_) => true,
-        Said::Text(name) => {
-            let at = name.at;
-            let len = name.len;
-            part_allowed(sep, source, at, len)
-        }
+        Said::Missing | Said::Number(_) => true,
+        Said::Text(name) => part_allowed(sep, &source[name.at..name.at + name.len]),
     }
 }
 
@@ -61,14 +51,10 @@ fn line_allowed(sep: u8, source: &[u8], line: Line) -> bool
     requires { AllWithin source.now line }
     ensures { result ≡ each (entry_allowed sep) (entries_of source.now line) }
 {
-    let tag = line.tag;
-    let count = column_count(tag);
-    let mut j: usize = 0;
-    while j < count {
-        if !said_allowed(sep, source, said_at(line, j)) {
+    for j in 0..column_count(line.tag) {
+        if !said_allowed(sep, source, line.fields[j]) {
             return false;
         }
-        j += 1;
     }
     true
 }
@@ -85,12 +71,12 @@ fn write_said(
         ≡ placed (text_made sep (Says (meaning_of source.now line))) out.old at }
 {
     if !line_given(line) {
-        refuse(out, Answer::NoTime)
-    } else if line_allowed(sep, source, line) {
-        place(out, at, Layout::Text(sep), source, line)
-    } else {
-        refuse(out, Answer::NameNotText)
+        return Err(Answer::NoTime);
     }
+    if !line_allowed(sep, source, line) {
+        return Err(Answer::NameNotText);
+    }
+    place(out, at, Layout::Text(sep), source, line)
 }
 
 pub fn write_in(
@@ -103,11 +89,6 @@ pub fn write_in(
     ensures { outcome result out.new
         ≡ placed (text_made sep (meaning order «record».now)) out.old at }
 {
-    let judged = judge_record(order, record);
-    let fault = judged.fault;
-    let line = judged.line;
-    match fault {
-        Fault::Found(answer) => refuse(out, answer),
-        Fault::None => write_said(out, at, sep, &record[4..], line),
-    }
+    let line = judge_record(order, record)?;
+    write_said(out, at, sep, &record[4..], line)
 }

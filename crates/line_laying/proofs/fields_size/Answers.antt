@@ -11,13 +11,12 @@ loop-j-preserved c =
     let a = c.args in
     let on = rest_length a.source.now a.line c.requires.0.full a.layout c.loop-j.j a.n
     (omega arith) c.requires.1 in (
-      omega arith,
       omega (arith, c.nth_size-size.ensures.1),
       omega (
         arith,
         c.nth_size-size.ensures.0,
         on,
-        c.loop-j.invariant.2,
+        c.loop-j.invariant.1,
       ),
     )
 
@@ -26,4 +25,4 @@ returns c =
     let a = c.args in
     let none = ap length (rest_ends a.source.now a.line c.requires.0.full a.layout c.loop-j.j a.n
     (omega arith)) in
-    (omega (arith, none, c.loop-j.invariant.2), omega arith)
+    (omega (arith, none, c.loop-j.invariant.1), omega arith)

@@ -18,8 +18,8 @@ said_at-said-requires c =
       most_columns_lem a.line.tag,
     )
 
-pub column_at-column-requires : goal.column_at-column-requires
-column_at-column-requires c =
+pub column_at-form-requires : goal.column_at-form-requires
+column_at-form-requires c =
     let a = c.args in
     rw c.column_of-i.ensures
     (column_inside a.layout a.line.tag a.j (omega (arith, c.requires.before, c.requires.few)))
@@ -29,11 +29,11 @@ unfolding nth_bytes
 returns-in-Text c =
     let a = c.args in
     let is = c.said_at-said in
-    let at = c.column_at-column in
+    let at = c.column_at-form in
     let e = entry_of a.source.now is.result in
     rw (← c.column_of-i.ensures, ← is.ensures, ← at.ensures)
     (rw c.in-Text.is (
-      marked_size _ at.result.0 e (eqb (a.j + 1) a.n) c.entry_size.ensures.0,
+      marked_size _ at.result.form e (eqb (a.j + 1) a.n) c.entry_size.ensures.0,
       omega arith,
     ))
 
@@ -43,5 +43,5 @@ returns-in-Record c =
     rw (
       ← c.column_of-i.ensures,
       ← c.said_at-said.ensures,
-      ← c.column_at-column.ensures,
+      ← c.column_at-form.ensures,
     ) (rw c.in-Record.is c.stored_size.ensures)

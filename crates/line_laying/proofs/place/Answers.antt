@@ -1,66 +1,39 @@
 -- `line_laying::place` meets its contract: refused where the whole does not fit, else written at its offset.
 -- Assumes nothing.
 use mathlib.Core.Path.{◌≡◌}
-use Prim.Native.Nat.{◌+◌}
+use mathlib.Core.List.{List}
+use Prim.Native.Nat.{ℕ, ◌+◌}
 use native.Mathlib.Omega.{arith}
 use lib.ListN.{length}
 use Rattle.output.proofs.Laws.{place_short, place_room, place_done}
-use Rattle.line_layouts.specs.Entries.{meaning_of}
-use Rattle.line_layouts.specs.Layouts.{Sized, laid_out}
+use Rattle.line_layouts.specs.declared.Layout.{Layout}
+use Rattle.line_layouts.specs.declared.Line.{Line}
+use Rattle.line_layouts.specs.Entries.{meaning_of, AllWithin}
+use Rattle.line_layouts.specs.Layouts.{Stops, Sized, rest_of, laid_out}
 use Rattle.line_layouts.proofs.Laid.{laid_size}
 use Rattle.line_laying.proofs.place.Goals as goal
 
-pub returns-then-out-at : goal.returns-then-out-at
-returns-then-out-at c =
-    let a = c.args in
-    place_short (laid_out a.layout (meaning_of a.source.now a.line)) a.out.now a.at (omega arith)
+module _ (layout : Layout) (s : List ℕ) (line : Line) (n size : ℕ) (there : AllWithin s line) (stops : Stops layout line n)
+    (is : size ≡ length (rest_of layout s line 0 n)) where
+  sized : Sized layout s line n size
+  sized = record { there = there; stops = stops; is = is }
 
-pub returns-then-out-at-2 : goal.returns-then-out-at-2
-returns-then-out-at-2 c =
-    let a = c.args in
-    let sized : Sized a.layout a.source.now a.line c.present_count-n.result c.fields_size-size.result =
-    record {
-      there = c.requires;
-      stops = c.present_count-n.ensures;
-      is = c.fields_size-size.ensures.0;
-    } in
-    let total : length (laid_out a.layout (meaning_of a.source.now a.line)) ≡ c.fields_size-size.result + 4 =
-    laid_size a.layout a.source.now a.line c.present_count-n.result c.fields_size-size.result
-    sized in
-    place_short (laid_out a.layout (meaning_of a.source.now a.line)) a.out.now a.at
-    (omega (arith, total))
+  total : length (laid_out layout (meaning_of s line)) ≡ size + 4
+  total = laid_size layout s line n size sized
 
-pub put_all-k-requires : goal.put_all-k-requires
-put_all-k-requires c =
-    let a = c.args in
-    let sized : Sized a.layout a.source.now a.line c.present_count-n.result c.fields_size-size.result =
-    record {
-      there = c.requires;
-      stops = c.present_count-n.ensures;
-      is = c.fields_size-size.ensures.0;
-    } in
-    let total : length (laid_out a.layout (meaning_of a.source.now a.line)) ≡ c.fields_size-size.result + 4 =
-    laid_size a.layout a.source.now a.line c.present_count-n.result c.fields_size-size.result
-    sized in
-    let a = c.args in (
-      sized,
-      place_room (laid_out a.layout (meaning_of a.source.now a.line)) a.out.now a.at
-          (omega (arith, total)),
+pub returns-then-saturating_sub-size : goal.returns-then-saturating_sub-size
+returns-then-saturating_sub-size c =
+    let all = total _ _ _ _ _ c.requires c.present_count-n.ensures c.fields_size-size.ensures.0 in
+    place_short _ c.args.out.now c.args.at (omega (arith, all))
+
+pub put_all-requires : goal.put_all-requires
+put_all-requires c =
+    let all = total _ _ _ _ _ c.requires c.present_count-n.ensures c.fields_size-size.ensures.0 in (
+      sized _ _ _ _ _ c.requires c.present_count-n.ensures c.fields_size-size.ensures.0,
+      place_room _ c.args.out.now c.args.at (omega (arith, all)),
     )
 
 pub returns : goal.returns
 returns c =
-    let a = c.args in
-    let sized : Sized a.layout a.source.now a.line c.present_count-n.result c.fields_size-size.result =
-    record {
-      there = c.requires;
-      stops = c.present_count-n.ensures;
-      is = c.fields_size-size.ensures.0;
-    } in
-    let total : length (laid_out a.layout (meaning_of a.source.now a.line)) ≡ c.fields_size-size.result + 4 =
-    laid_size a.layout a.source.now a.line c.present_count-n.result c.fields_size-size.result
-    sized in
-    let q = c.put_all-k in
-    place_done (laid_out a.layout (meaning_of a.source.now a.line)) a.out.now a.at
-    (omega (arith, total))
-    q.result q.new.out q.ensures
+    let all = total _ _ _ _ _ c.requires c.present_count-n.ensures c.fields_size-size.ensures.0 in
+    place_done _ c.args.out.now c.args.at (omega (arith, all)) _ _ c.put_all.ensures

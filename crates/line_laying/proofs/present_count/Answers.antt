@@ -19,7 +19,7 @@ said_at-requires c =
       arith,
       c.column_of.ensures,
       column_inside a.layout a.line.tag c.loop-j.j
-          (omega (arith, c.loop-j-test.true, c.column_count-count.ensures.0)),
+          (omega (arith, c.loop-j-test.true, c.column_count-j-end.ensures.0)),
       most_columns_lem a.line.tag,
     )
 
@@ -28,15 +28,14 @@ loop-j-preserved c =
     let a = c.args in
     let j = c.loop-j.j in
     let k = bar_in a.layout a.line.tag in
-    let inside : j < length (columns a.line.tag) = omega (arith, c.column_count-count.ensures.0) in
+    let inside : j < length (columns a.line.tag) = omega (arith, c.column_count-j-end.ensures.0) in
     let is : c.said_at.result
-    ≡ (get_or a.line.fields (column_of a.layout a.line.tag j) no_field).said =
+    ≡ (get_or a.line.fields (column_of a.layout a.line.tag j) no_field) =
     c.said_at.ensures
-    ∙ ap (λ (i : ℕ). (get_or a.line.fields i no_field).said) c.column_of.ensures in
+    ∙ ap (λ (i : ℕ). (get_or a.line.fields i no_field)) c.column_of.ensures in
     elim c.if-not-is_missing.branch [
       | then-not-is_missing w ↦ (
         omega arith,
-        omega (arith, c.loop-j.invariant.1),
         omega (arith, w.n-is),
         λ source. rw w.n-is
             (stop_value source a.line c.requires a.layout k j 0 inside
@@ -44,20 +43,19 @@ loop-j-preserved c =
       )
       | else-not-is_missing w ↦ (
         omega arith,
-        omega (arith, c.loop-j.invariant.1),
         omega (arith, w.n-is),
         λ source. rw w.n-is
             (stop_missing source a.line c.requires a.layout k j c.loop-j.n inside
-            (rw (← is) (sym c.is_missing.ensures ∙ w.if-not-is_missing.false)) c.loop-j.invariant.1
-            (c.loop-j.invariant.3 source)),
+            (rw (← is) (sym c.is_missing.ensures ∙ w.if-not-is_missing.false)) (omega arith)
+            (c.loop-j.invariant.2 source)),
       )
     ]
 
 pub returns : goal.returns
 returns c =
-    let count = c.column_count-count.ensures.0 in
+    let count = c.column_count-j-end.ensures.0 in
     record {
       few = omega (arith, count);
       all = λ source. rw (stop_all source c.args.line c.requires c.args.layout c.loop-j.j
-          (omega (arith, count))) at (c.loop-j.invariant.3 source);
+          (omega (arith, count))) at (c.loop-j.invariant.2 source);
     }

@@ -15,8 +15,8 @@ said_at-said-requires c =
       most_columns_lem a.line.tag,
     )
 
-pub column_at-column-requires : goal.column_at-column-requires
-column_at-column-requires c =
+pub column_at-form-requires : goal.column_at-form-requires
+column_at-form-requires c =
     let a = c.args in
     rw c.column_of-i.ensures
     (column_inside a.layout a.line.tag a.j (omega (arith, c.requires.0.before, c.requires.0.few)))
@@ -28,7 +28,7 @@ put_marked-requires c =
     let is = c.said_at-said.ensures in (
       rw is (c.requires.0.there.within of.result),
       rw c.in-Text.is
-          at (rw (← of.ensures, ← is, ← c.column_at-column.ensures) at c.requires.1),
+          at (rw (← of.ensures, ← is, ← c.column_at-form.ensures) at c.requires.1),
     )
 
 pub put_stored-requires : goal.put_stored-requires
@@ -38,7 +38,7 @@ put_stored-requires c =
     let is = c.said_at-said.ensures in (
       rw is (c.requires.0.there.within of.result),
       rw c.in-Record.is
-          at (rw (← of.ensures, ← is, ← c.column_at-column.ensures) at c.requires.1),
+          at (rw (← of.ensures, ← is, ← c.column_at-form.ensures) at c.requires.1),
     )
 
 pub returns-in-Text : goal.returns-in-Text
@@ -47,7 +47,7 @@ returns-in-Text c =
     rw (
       ← c.column_of-i.ensures,
       ← c.said_at-said.ensures,
-      ← c.column_at-column.ensures,
+      ← c.column_at-form.ensures,
     )
     (rw c.in-Text.is c.put_marked.ensures)
 
@@ -57,6 +57,6 @@ returns-in-Record c =
     rw (
       ← c.column_of-i.ensures,
       ← c.said_at-said.ensures,
-      ← c.column_at-column.ensures,
+      ← c.column_at-form.ensures,
     )
     (rw c.in-Record.is c.put_stored.ensures)

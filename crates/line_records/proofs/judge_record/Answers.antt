@@ -20,9 +20,8 @@ returns-then-not-is_record c =
     let a = c.args in
     let s = a.«record».now in
     let told = c.is_record in
-    rw c.refused_line.ensures
-    (held_refused (body s) (record_line a.order s) (meaning a.order s) NotOneRecord
-    (meaning_frame a.order s (sym told.ensures ∙ c.if-not-is_record.true)))
+    held_refused (body s) (record_line a.order s) (meaning a.order s) NotOneRecord
+    (meaning_frame a.order s (sym told.ensures ∙ c.if-not-is_record.true))
 
 pub bounds-record-2 : goal.bounds-record-2
 bounds-record-2 c =
@@ -77,6 +76,5 @@ returns-in-None c =
     let a = c.args in
     let s = a.«record».now in
     let tagged = rw c.kind_of.ensures at (sym c.count_tag.ensures ∙ c.in-None.is) in
-    rw c.refused_line-in-None.ensures
-    (held_refused (body s) (record_line a.order s) (meaning a.order s) UnknownKind
-    (rw (meaning_tagged a.order s is, tagged)))
+    held_refused (body s) (record_line a.order s) (meaning a.order s) UnknownKind
+    (rw (meaning_tagged a.order s is, tagged))

@@ -8,11 +8,11 @@ pub returns-then-is_name : goal.returns-then-is_name
 returns-then-is_name c =
     let a = c.args in
     c.name_at.ensures a.order a.column
-    (name_form a.column.0 (sym c.is_name.ensures ∙ c.if-is_name.true)) refl
+    (name_form a.column.form (sym c.is_name.ensures ∙ c.if-is_name.true)) refl
 
-pub returns : goal.returns
-returns c =
+pub returns-else-is_name : goal.returns-else-is_name
+returns-else-is_name c =
     let a = c.args in
     c.letter_at.ensures a.order a.column
-    (letter_form a.column.0 (sym c.is_number.ensures ∙ c.if-is_number.false)
+    (letter_form a.column.form (sym c.is_number.ensures ∙ c.if-is_number.false)
     (sym c.is_name.ensures ∙ c.if-is_name.false))

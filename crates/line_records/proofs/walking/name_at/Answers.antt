@@ -5,43 +5,43 @@ use native.Mathlib.Omega.{arith}
 use Rattle.line_records.proofs.Places.{name_size, name_short, name_none, name_long, name_there}
 use Rattle.line_records.proofs.walking.name_at.Goals as goal
 
-pub returns-then-n-s : goal.returns-then-n-s
-returns-then-n-s c =
+pub returns-then-len-s : goal.returns-then-len-s
+returns-then-len-s c =
     let a = c.args in
-    λ ends col is kept. name_short a.s.now a.at c.wide-n.result c.wide-n.ensures a.most ends col is kept
-    c.requires c.if-n-s.true
+    λ ends col is kept. name_short a.s.now a.at c.from-len.result c.from-len.ensures a.most ends col is kept
+    c.requires c.if-len-s.true
 
-pub returns-then-n-eq0 : goal.returns-then-n-eq0
-returns-then-n-eq0 c =
+pub returns-then-len-eq0 : goal.returns-then-len-eq0
+returns-then-len-eq0 c =
     let a = c.args in
     λ ends col is kept. (
-      name_none a.s.now a.at c.wide-n.result c.wide-n.ensures a.most ends col is kept
-          c.if-n-s.false
-          c.if-n-eq0.true,
+      name_none a.s.now a.at c.from-len.result c.from-len.ensures a.most ends col is kept
+          c.if-len-s.false
+          c.if-len-eq0.true,
       omega (
         arith,
-        name_size a.s.now a.at c.wide-n.result c.wide-n.ensures a.most ends col is kept,
-        c.if-n-eq0.true,
+        name_size a.s.now a.at c.from-len.result c.from-len.ensures a.most ends col is kept,
+        c.if-len-eq0.true,
       ),
       omega (arith, c.requires),
     )
 
-pub returns-then-n-most : goal.returns-then-n-most
-returns-then-n-most c =
+pub returns-else-len-most : goal.returns-else-len-most
+returns-else-len-most c =
     let a = c.args in
-    λ ends col is kept. name_long a.s.now a.at c.wide-n.result c.wide-n.ensures a.most ends col is kept
-    c.if-n-s.false c.if-n-most.true
+    λ ends col is kept. name_long a.s.now a.at c.from-len.result c.from-len.ensures a.most ends col is kept
+    c.if-len-s.false c.if-len-most.false
 
-pub returns : goal.returns
-returns c =
+pub returns-then-len-most : goal.returns-then-len-most
+returns-then-len-most c =
     let a = c.args in
-    let some : 1 ≤ c.wide-n.result = omega (arith, c.if-n-eq0.false) in
+    let some : 1 ≤ c.from-len.result = omega (arith, c.if-len-eq0.false) in
     λ ends col is kept. (
-      name_there a.s.now a.at c.wide-n.result c.wide-n.ensures a.most ends col is kept
-          c.if-n-s.false some c.if-n-most.false,
+      name_there a.s.now a.at c.from-len.result c.from-len.ensures a.most ends col is kept
+          c.if-len-s.false some c.if-len-most.true,
       omega (
         arith,
-        name_size a.s.now a.at c.wide-n.result c.wide-n.ensures a.most ends col is kept,
+        name_size a.s.now a.at c.from-len.result c.from-len.ensures a.most ends col is kept,
       ),
-      omega (arith, c.if-n-s.false),
+      omega (arith, c.if-len-s.false),
     )

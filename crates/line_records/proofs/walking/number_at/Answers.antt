@@ -17,11 +17,11 @@ returns-then-s-at c =
 
 pub returns-then-is_flag : goal.returns-then-is_flag
 returns-then-is_flag c =
-    let fits : c.args.at + width c.args.column.0 ≤ length c.args.s.now =
+    let fits : c.args.at + width c.args.column.form ≤ length c.args.s.now =
     omega (arith, c.if-s-at.false, c.width_of-w.ensures.0, c.requires.0) in
     let a = c.args in
     let n = c.number_in-n in
-    let size = size_number a.column.0 (drop a.at a.s.now) c.requires.1 in (
+    let size = size_number a.column.form (drop a.at a.s.now) c.requires.1 in (
       number_missing a.order a.column a.s.now a.at c.requires.1 fits n.result n.ensures
           (sym c.is_flag.ensures ∙ c.if-is_flag.true),
       omega (arith, size, c.width_of-w.ensures.0),
@@ -30,11 +30,11 @@ returns-then-is_flag c =
 
 pub returns-then-n-column : goal.returns-then-n-column
 returns-then-n-column c =
-    let fits : c.args.at + width c.args.column.0 ≤ length c.args.s.now =
+    let fits : c.args.at + width c.args.column.form ≤ length c.args.s.now =
     omega (arith, c.if-s-at.false, c.width_of-w.ensures.0, c.requires.0) in
     let a = c.args in
     let n = c.number_in-n in
-    let size = size_number a.column.0 (drop a.at a.s.now) c.requires.1 in (
+    let size = size_number a.column.form (drop a.at a.s.now) c.requires.1 in (
       number_value a.order a.column a.s.now a.at c.requires.1 fits n.result n.ensures
           (sym c.is_flag.ensures ∙ c.if-is_flag.false) c.if-n-column.true,
       omega (arith, size, c.width_of-w.ensures.0),
@@ -43,7 +43,7 @@ returns-then-n-column c =
 
 pub returns-else-n-column : goal.returns-else-n-column
 returns-else-n-column c =
-    let fits : c.args.at + width c.args.column.0 ≤ length c.args.s.now =
+    let fits : c.args.at + width c.args.column.form ≤ length c.args.s.now =
     omega (arith, c.if-s-at.false, c.width_of-w.ensures.0, c.requires.0) in
     let a = c.args in
     let n = c.number_in-n in

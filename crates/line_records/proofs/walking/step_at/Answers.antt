@@ -19,8 +19,8 @@ returns-then-j-bar c =
     goes_short (a.bar - a.j) a.order a.column a.s.now a.at c.if-at-s.false
     (omega (arith, c.if-j-bar.true))
 
-pub returns : goal.returns
-returns c =
+pub returns-else-j-bar : goal.returns-else-j-bar
+returns-else-j-bar c =
     let a = c.args in (
       goes_missing (a.bar - a.j) a.order a.column a.s.now a.at c.if-at-s.false
           (omega (arith, c.if-j-bar.false)),

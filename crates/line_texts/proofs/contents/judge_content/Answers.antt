@@ -13,7 +13,6 @@ returns-then-not-is_unbroken c =
     let a = c.args in
     let told = c.is_unbroken in
     rw (content_broken a.sep a.s.now (sym told.ensures ∙ c.if-not-is_unbroken.true))
-    c.refused_line.ensures
 
 pub judge_fields-requires : goal.judge_fields-requires
 judge_fields-requires c =
@@ -38,4 +37,3 @@ returns-in-None c =
     let a = c.args in
     let tagged = sym c.tag_of.ensures ∙ c.in-None.is in
     rw (content_tagged a.sep a.s.now whole, tagged)
-    c.refused_line-in-None.ensures

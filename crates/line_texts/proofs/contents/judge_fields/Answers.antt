@@ -1,7 +1,7 @@
 -- `line_texts::contents::judge_fields` meets its contract: each return is one law of `fields_mean`.
 -- Assumes nothing.
 use mathlib.Core.Path.{◌≡◌, ap, sym, ◌∙◌}
-use mathlib.Core.Bool.{true, not}
+use mathlib.Core.Bool.{true}
 use lib.Dec.{leb}
 use lib.ListN.{length, drop}
 use Rattle.line_layouts.specs.declared.Line.{Line}
@@ -18,7 +18,7 @@ pub returns-then-not-sites_fit : goal.returns-then-not-sites_fit
 returns-then-not-sites_fit c =
     let a = c.args in
     let few : leb (length (split a.sep (drop 4 a.s.now))) (length (columns a.tag)) ≡ true =
-    c.cut-pieces.ensures.few ∙ ap not c.if-pieces.false in
+    c.in-Some.ensures.few in
     let fits : fields_fit a.sep (columns a.tag) (gathered a.tag (split a.sep (drop 4 a.s.now))) ≡ true =
     sym c.fields_fit.ensures ∙ c.if-not-fields_fit.false in
     let told : c.sites_fit.result
@@ -31,13 +31,12 @@ returns-then-not-sites_fit c =
     rw (mean_sites a.sep a.tag (split a.sep (drop 4 a.s.now)) few
     fits
     (sym told ∙ c.if-not-sites_fit.true))
-    c.refused_line-then-not-sites_fit.ensures
 
 pub returns : goal.returns
 returns c =
     let a = c.args in
     let few : leb (length (split a.sep (drop 4 a.s.now))) (length (columns a.tag)) ≡ true =
-    c.cut-pieces.ensures.few ∙ ap not c.if-pieces.false in
+    c.in-Some.ensures.few in
     let fits : fields_fit a.sep (columns a.tag) (gathered a.tag (split a.sep (drop 4 a.s.now))) ≡ true =
     sym c.fields_fit.ensures ∙ c.if-not-fields_fit.false in
     let told : c.sites_fit.result
@@ -50,4 +49,4 @@ returns c =
     rw (mean_said a.sep a.tag (split a.sep (drop 4 a.s.now)) few
     fits
     (sym told ∙ c.if-not-sites_fit.false))
-    (c.said_line.ensures ∙ ap saying c.fill-line.ensures)
+    (ap saying c.fill-line.ensures)

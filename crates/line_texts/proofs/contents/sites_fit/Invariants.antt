@@ -1,11 +1,7 @@
 -- `line_texts::contents::sites_fit` meets its contract: the fields passed are as they must be beside each other.
 -- Assumes nothing.
-use Prim.Native.Nat.{◌-◌, ◌≤◌}
 use Rattle.line_texts.proofs.Whole.{Sitting}
 use Rattle.line_texts.proofs.contents.sites_fit.Given as goal
 
 abbrev pub invariant-loop-j : goal.invariant-loop-j
-invariant-loop-j l = (l.j ≤ l.count) × Sitting l.line l.j l.gone
-
-abbrev pub decreases-loop-j : goal.decreases-loop-j
-decreases-loop-j l = l.count - l.j
+invariant-loop-j l = Sitting l.line l.j l.gone

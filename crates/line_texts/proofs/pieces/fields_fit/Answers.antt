@@ -13,43 +13,35 @@ use Rattle.line_texts.proofs.pieces.fields_fit.Goals as goal
 pub fits_at-requires : goal.fits_at-requires
 fits_at-requires c =
     let a = c.args in
-    rw c.place_of-place.ensures
-    (piece_inside a.sep a.text.now a.tag a.cut c.requires c.loop-j.j
-    (omega (arith, c.column_count-count.ensures.0)))
+    rw c.place_of.ensures
+    (piece_inside a.sep a.text.now a.tag a.places c.requires c.loop-j.j
+    (rw c.columns-column-items.ensures.all at c.loop-j-test.true))
 
 pub returns-then-not-fits_at : goal.returns-then-not-fits_at
 returns-then-not-fits_at c =
     let a = c.args in
     let ps = split a.sep (drop 4 a.text.now) in
-    let told = c.fits_at in
-    let inside : c.loop-j.j < length (columns a.tag) = omega (arith, c.column_count-count.ensures.0) in
-    sym (c.loop-j.invariant.1 ∙ fields_no a.sep (columns a.tag) (gathered a.tag ps) c.loop-j.j inside
+    let all = c.columns-column-items.ensures.all in
+    let inside : c.loop-j.j < length (columns a.tag) = rw all at c.loop-j-test.true in
+    sym (c.loop-j.invariant ∙ fields_no a.sep (columns a.tag) (gathered a.tag ps) c.loop-j.j inside
     (omega (arith, length_gathered a.tag ps))
-    (rw (
-      ← piece_is a.sep a.text.now a.tag a.cut c.requires c.loop-j.j inside,
-      ← c.place_of-place.ensures,
-      ← c.column_at.ensures,
-    ) (sym told.ensures ∙ c.if-not-fits_at.true)))
+    (rw (← piece_is a.sep a.text.now a.tag a.places c.requires c.loop-j.j inside, ← c.place_of.ensures, ← all)
+    (sym c.fits_at.ensures ∙ c.if-not-fits_at.true)))
 
 pub loop-j-preserved : goal.loop-j-preserved
 loop-j-preserved c =
     let a = c.args in
     let ps = split a.sep (drop 4 a.text.now) in
-    let told = c.fits_at in
-    let inside : c.loop-j.j < length (columns a.tag) = omega (arith, c.column_count-count.ensures.0) in (
-      omega arith,
-      c.loop-j.invariant.1 ∙ fields_on a.sep (columns a.tag) (gathered a.tag ps) c.loop-j.j inside
-          (omega (arith, length_gathered a.tag ps))
-          (rw (
-            ← piece_is a.sep a.text.now a.tag a.cut c.requires c.loop-j.j inside,
-            ← c.place_of-place.ensures,
-            ← c.column_at.ensures,
-          ) (sym told.ensures ∙ c.if-not-fits_at.false)),
-    )
+    let all = c.columns-column-items.ensures.all in
+    let inside : c.loop-j.j < length (columns a.tag) = rw all at c.loop-j-test.true in
+    c.loop-j.invariant ∙ fields_on a.sep (columns a.tag) (gathered a.tag ps) c.loop-j.j inside
+    (omega (arith, length_gathered a.tag ps))
+    (rw (← piece_is a.sep a.text.now a.tag a.places c.requires c.loop-j.j inside, ← c.place_of.ensures, ← all)
+    (sym c.fits_at.ensures ∙ c.if-not-fits_at.false))
 
 pub returns : goal.returns
 returns c =
     let a = c.args in
     let ps = split a.sep (drop 4 a.text.now) in
-    sym (c.loop-j.invariant.1 ∙ fields_end a.sep (columns a.tag) (gathered a.tag ps) c.loop-j.j
-    (omega (arith, c.column_count-count.ensures.0)))
+    sym (c.loop-j.invariant ∙ fields_end a.sep (columns a.tag) (gathered a.tag ps) c.loop-j.j
+    (rw c.columns-column-items.ensures.all at c.loop-j-test.false))

@@ -1,11 +1,10 @@
 -- `line_texts::pieces::fill` meets its contract: the fields filled are the first ones of the line's.
 -- Assumes nothing.
-use mathlib.Core.Path.{◌≡◌, ap, sym, ◌∙◌}
+use mathlib.Core.Path.{◌≡◌, sym, ◌∙◌}
 use Prim.Native.Nat.{◌<◌}
 use native.Mathlib.Omega.{arith}
 use lib.ListN.{length, get_or, drop, length-set}
 use Rattle.line_layouts.specs.declared.Said.{Said}
-use Rattle.line_layouts.specs.declared.Field.{Field}
 use Rattle.line_layouts.specs.Columns.{columns, no_column}
 use Rattle.line_layouts.specs.Entries.{named, no_field}
 use Rattle.line_layouts.proofs.Fills.{stored_on}
@@ -23,20 +22,16 @@ use Rattle.line_texts.proofs.Places.{
 }
 use Rattle.line_texts.proofs.pieces.fill.Goals as goal
 
-pub said_in-said-requires : goal.said_in-said-requires
-said_in-said-requires c =
+pub said_in-requires : goal.said_in-requires
+said_in-requires c =
     let a = c.args in
     let text = a.text.now in
     let j = c.loop-j.j in
-    let inside : j < length (columns a.tag) = omega (arith, c.column_count-count.ensures.0) in (
-      rw c.place_of-place.ensures (piece_inside a.sep text a.tag a.cut c.requires.0 j inside),
-      rw (
-        c.place_of-place.ensures,
-        c.column_at.ensures,
-        piece_is a.sep text a.tag a.cut c.requires.0 j inside,
-      )
-          (fields_each a.sep (columns a.tag) (gathered a.tag (split a.sep (drop 4 text))) j c.requires.1
-          inside),
+    let all = c.columns-column-items.ensures.all in
+    let inside : j < length (columns a.tag) = rw all at c.loop-j-test.true in (
+      rw c.place_of.ensures (piece_inside a.sep text a.tag a.places c.requires.0 j inside),
+      rw (c.place_of.ensures, all, piece_is a.sep text a.tag a.places c.requires.0 j inside)
+          (fields_each a.sep (columns a.tag) (gathered a.tag (split a.sep (drop 4 text))) j c.requires.1 inside),
     )
 
 pub loop-j-preserved : goal.loop-j-preserved
@@ -45,26 +40,23 @@ loop-j-preserved c =
     let text = a.text.now in
     let j = c.loop-j.j in
     let ns = places_in a.sep text a.tag in
-    let inside : j < length (columns a.tag) = omega (arith, c.column_count-count.ensures.0) in
-    let room : j < length c.loop-j.fields = omega (arith, c.column_count-count.ensures.1, c.loop-j.invariant.1) in
+    let all = c.columns-column-items.ensures.all in
+    let inside : j < length (columns a.tag) = rw all at c.loop-j-test.true in
+    let room : j < length c.loop-j.fields =
+    omega (arith, c.loop-j-test.true, c.columns-column-items.ensures.few, c.loop-j.invariant.0) in
     let said : said_in (get_or (columns a.tag) j no_column) (get_or ns j no_place).at
     (named text (get_or ns j no_place))
-    ≡ c.said_in-said.result =
-    rw (
-      ← piece_at a.sep text a.tag a.cut c.requires.0 j inside,
-      ← c.place_of-place.ensures,
-      ← c.column_at.ensures,
-    ) (sym c.said_in-said.ensures) in
-    let next = field_at_lem text (columns a.tag) ns j (length_places_in a.sep text a.tag) inside
-    ∙ ap (λ (x : Said). record { said = x }) said in (
-      omega arith,
-      simp length-set c.loop-j.invariant.1,
-      stored_on Field no_field (fields a.sep text a.tag) j c.loop-j.fields (record { said = c.said_in-said.result })
-          room next c.loop-j.invariant.2,
+    ≡ c.said_in.result =
+    rw (← piece_at a.sep text a.tag a.places c.requires.0 j inside, ← c.place_of.ensures, ← all)
+    (sym c.said_in.ensures) in (
+      simp length-set c.loop-j.invariant.0,
+      stored_on Said no_field (fields a.sep text a.tag) j c.loop-j.fields c.said_in.result room
+          (field_at_lem text (columns a.tag) ns j (length_places_in a.sep text a.tag) inside ∙ said)
+          c.loop-j.invariant.1,
     )
 
 pub returns : goal.returns
 returns c =
     let a = c.args in
     filled_all a.sep a.text.now a.tag c.loop-j.fields c.loop-j.j
-    (omega (arith, c.column_count-count.ensures.0)) c.loop-j.invariant.1 c.loop-j.invariant.2
+    (rw c.columns-column-items.ensures.all at c.loop-j-test.false) c.loop-j.invariant.0 c.loop-j.invariant.1

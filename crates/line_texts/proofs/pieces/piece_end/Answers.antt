@@ -1,33 +1,24 @@
--- `line_texts::pieces::piece_end` meets its contract: what is passed holds no separator.
+-- `line_texts::pieces::piece_end` meets its contract: what `position` answers is where the first separator stands.
 -- Assumes nothing.
-use native.Mathlib.Omega.{arith}
-use Rattle.line_texts.proofs.Cuts.{passed_on, passed_separator, passed_all}
+use Rattle.std.proofs.Common.{◌≡◌, ℕ, ◌+◌, ◌≤◌, length, drop, eqb, sym, rules, tests, arith}
+use Rattle.std.proofs.lemmas.Iterator.{YieldsList-from_slice}
+use Rattle.std.proofs.lemmas.Iterator.Search.{position_from_yields_List}
+use Rattle.prelude.proofs.Parts.{part_from}
+use Rattle.line_texts.proofs.Cuts.{stop, stop_is, stop_none, piece_ends, piece_last}
 use Rattle.line_texts.proofs.pieces.piece_end.Goals as goal
 
-pub returns-then-text-i : goal.returns-then-text-i
-returns-then-text-i c =
+pub returns-in-Some : goal.returns-in-Some
+returns-in-Some c =
     let a = c.args in
-    record {
-      low = c.loop-i.invariant.0;
-      high = c.loop-i.invariant.1;
-      cut = passed_separator a.sep a.text.now a.from c.loop-i.i (omega arith) c.if-text-i.true
-          c.loop-i.invariant.2;
-    }
+    let s = a.text.now in
+    let told = position_from_yields_List (λ (b : ℕ). eqb b a.sep) _ _ _ c.in-Some.ensures.ran
+    (YieldsList-from_slice (drop a.from s) (cc (part_from s a.from))) (λ x b q k. search (rules, tests)) in
+    piece_ends a.sep s a.from c.in-Some.len c.requires (stop_is _ _ c.in-Some.len told)
 
-pub loop-i-preserved : goal.loop-i-preserved
-loop-i-preserved c =
-    let a = c.args in (
-      omega arith,
-      omega arith,
-      passed_on a.sep a.text.now a.from c.loop-i.i c.loop-i.invariant.0 (omega arith)
-          c.if-text-i.false c.loop-i.invariant.2,
-    )
-
-pub returns : goal.returns
-returns c =
+pub returns-in-None : goal.returns-in-None
+returns-in-None c =
     let a = c.args in
-    record {
-      low = c.loop-i.invariant.0;
-      high = c.loop-i.invariant.1;
-      cut = passed_all a.sep a.text.now a.from c.loop-i.i (omega arith) c.loop-i.invariant.2;
-    }
+    let s = a.text.now in
+    let told = position_from_yields_List (λ (b : ℕ). eqb b a.sep) _ _ _ c.in-None.ensures.ran
+    (YieldsList-from_slice (drop a.from s) (cc (part_from s a.from))) (λ x b q k. search (rules, tests)) in
+    piece_last a.sep s a.from c.requires (stop_none _ _ told)

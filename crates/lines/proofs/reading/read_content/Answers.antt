@@ -1,27 +1,21 @@
 -- `lines::reading::read_content` meets its contract: 18, or else the record is placed.
 -- Assumes nothing.
-use Rattle.line_layouts.specs.Judging.{Taken}
-use Rattle.line_texts.specs.Texts.{content_means}
+use Rattle.std.proofs.lemmas.Result.{err_from_is_err_and}
 use Rattle.line_texts.proofs.Whole.{content_taken}
 use Rattle.lines.proofs.reading.read_content.Goals as goal
 
 pub place-requires : goal.place-requires
 place-requires c =
-    let taken : Taken c.args.s.now (content_means c.args.sep c.args.s.now) c.judge_content-judged.result =
-    content_taken c.args.sep c.args.s.now c.judge_content-judged.result c.judge_content-judged.ensures in
-    taken.there c.in-None.is
+    let taken = content_taken c.args.sep c.args.s.now _ c.judge_content.ensures in
+    rw c.in_ok-line.was at taken.there
 
-pub returns-in-Found : goal.returns-in-Found
-returns-in-Found c =
-    let taken : Taken c.args.s.now (content_means c.args.sep c.args.s.now) c.judge_content-judged.result =
-    content_taken c.args.sep c.args.s.now c.judge_content-judged.result c.judge_content-judged.ensures in
-    rw (← taken.means, c.in-Found.is) c.refuse.ensures
+pub returns-in_err-line : goal.returns-in_err-line
+returns-in_err-line c =
+    let taken = content_taken c.args.sep c.args.s.now _ c.judge_content.ensures in
+    let p = err_from_is_err_and c.from_residual.result c.from_residual.ensures.1 in
+    rw (p.1, p.2, ← taken.means, c.in_err-line.was)
 
-pub returns-in-None : goal.returns-in-None
-returns-in-None c =
-    let taken : Taken c.args.s.now (content_means c.args.sep c.args.s.now) c.judge_content-judged.result =
-    content_taken c.args.sep c.args.s.now c.judge_content-judged.result c.judge_content-judged.ensures in
-    rw (
-      ← taken.means,
-      c.in-None.is,
-    ) c.place.ensures
+pub returns : goal.returns
+returns c =
+    let taken = content_taken c.args.sep c.args.s.now _ c.judge_content.ensures in
+    rw (← taken.means, c.in_ok-line.was) c.place.ensures

@@ -16,13 +16,13 @@ returns-then-not-said_allowed c =
     let a = c.args in
     let j = c.loop-j.j in
     let full = c.requires.full in
-    let count = c.column_count-count.ensures.0 in
+    let count = c.column_count-j-end.ensures.0 in
     let es = entries_of a.source.now a.line in
     let told = c.said_allowed in
     let inside : j < length (columns a.line.tag) = omega arith in
-    sym (c.loop-j.invariant.1 ∙ each_fails Entry (entry_allowed a.sep) es j Missing
+    sym (c.loop-j.invariant ∙ each_fails Entry (entry_allowed a.sep) es j Missing
     (omega (arith, length_entries a.source.now a.line full))
-    (rw (said_at a.source.now a.line full j inside, ← c.said_at.ensures)
+    (rw (said_at a.source.now a.line full j inside)
     (sym told.ensures ∙ c.if-not-said_allowed.true)))
 
 pub loop-j-preserved : goal.loop-j-preserved
@@ -30,13 +30,11 @@ loop-j-preserved c =
     let a = c.args in
     let j = c.loop-j.j in
     let full = c.requires.full in
-    let count = c.column_count-count.ensures.0 in
+    let count = c.column_count-j-end.ensures.0 in
     let es = entries_of a.source.now a.line in
     let told = c.said_allowed in
-    let inside : j < length (columns a.line.tag) = omega arith in (
-      omega arith,
-      c.loop-j.invariant.1 ∙ each_on Entry (entry_allowed a.sep) es j Missing
-          (omega (arith, length_entries a.source.now a.line full))
-          (rw (said_at a.source.now a.line full j inside, ← c.said_at.ensures)
-          (sym told.ensures ∙ c.if-not-said_allowed.false)),
-    )
+    let inside : j < length (columns a.line.tag) = omega arith in
+    c.loop-j.invariant ∙ each_on Entry (entry_allowed a.sep) es j Missing
+    (omega (arith, length_entries a.source.now a.line full))
+    (rw (said_at a.source.now a.line full j inside)
+    (sym told.ensures ∙ c.if-not-said_allowed.false))

@@ -1,7 +1,6 @@
 -- `lines::writing::line_allowed` meets its contract: the entries passed are allowed.
 -- Assumes nothing.
 use mathlib.Core.Path.{◌≡◌}
-use Prim.Native.Nat.{◌-◌, ◌≤◌}
 use lib.ListN.{drop}
 use Rattle.prelude.specs.Each.{each}
 use Rattle.line_layouts.specs.Entries.{entries_of}
@@ -11,7 +10,4 @@ use Rattle.lines.proofs.writing.line_allowed.Given as goal
 abbrev pub invariant-loop-j : goal.invariant-loop-j
 invariant-loop-j l =
     let entries = entries_of l.source l.line in
-    (l.j ≤ l.count) × (each (entry_allowed l.sep) entries ≡ each (entry_allowed l.sep) (drop l.j entries))
-
-abbrev pub decreases-loop-j : goal.decreases-loop-j
-decreases-loop-j l = l.count - l.j
+    each (entry_allowed l.sep) entries ≡ each (entry_allowed l.sep) (drop l.j entries)
