@@ -1,30 +1,30 @@
 -- Laws of words: the first word of a line and the rest, and a walk over a word.
 -- Assumes nothing.
+use Rattle.std.specs.Prelude.{not, Some, None, position}
+use Rattle.std.specs.List.{position_or_len}
 use mathlib.Core.Path.{◌≡◌, refl, sym, ap, ◌∙◌}
 use mathlib.Core.Bool.{Bool, true, false, cond}
 use mathlib.Core.List.{List, [], ◌∷◌}
 use Prim.Native.Nat.{ℕ, suc, ◌+◌, ◌-◌, ◌≤◌, ◌<◌}
-use native.Mathlib.Numerals.{add-one}
 use native.Mathlib.Omega.{arith}
-use borrow.Author.Tests.{eq-eqb, ne_eqb}
-use lib.Dec.{eqb}
-use lib.ListN.{length, get_or, take, drop, drop_of_length-le, length-drop}
-use lib.Seq.{drop-cons, drop-drop}
+use borrow.Author.Tests.{ltb-false}
+use lib.Dec.{eqb, ltb}
+use lib.ListN.{length, take, drop, length-drop}
+use lib.Seq.{drop-drop}
 use Rattle.prelude.proofs.Parts.{part_from}
 use Rattle.script.specs.Words.{space, word_length, word_end, before, words}
 
 -- ---- where a word ends
 
-module _ (line : List ℕ) (i : ℕ) where
-  pub length_ends : length line ≤ i → word_length (drop i line) ≡ 0
-  length_ends h = rw (drop_of_length-le line {i = i} h)
-
-  module _ (h : i < length line) where
-    pub length_stops : get_or line i 0 ≡ space → word_length (drop i line) ≡ 0
-    length_stops e = rw (drop-cons line i 0 h, eq-eqb (get_or line i 0) space e)
-
-    pub length_on : (get_or line i 0 ≡ space → ⊥) → word_length (drop i line) ≡ suc (word_length (drop (i + 1) line))
-    length_on e = rw (drop-cons line i 0 h, ne_eqb (get_or line i 0) space e, add-one i)
+-- the first space is where the word ends
+pub word_position : (line : List ℕ) → word_length line ≡ position_or_len (λ b. eqb b space) line
+word_position [] = refl
+word_position (b ∷ bs) = go (eqb b space) (word_position bs)
+  where
+    go : (t : Bool) → word_length bs ≡ position_or_len (λ b. eqb b space) bs
+        → cond t 0 (suc (word_length bs)) ≡ cond (not t) (1 + position_or_len (λ b. eqb b space) bs) 0
+    go true e = refl
+    go false e = omega (arith, e)
 
 pub word_within : (line : List ℕ) → word_length line ≤ length line
 word_within [] = omega arith
@@ -33,6 +33,35 @@ word_within (b ∷ bs) = go (eqb b space) (word_within bs)
     go : (t : Bool) → word_length bs ≤ length bs → cond t 0 (suc (word_length bs)) ≤ suc (length bs)
     go true h = omega arith
     go false h = omega (arith, h)
+
+-- .. or the line ends
+module _ (line : List ℕ) (from : ℕ) (h : from ≤ length line) where
+  abbrev rest : List ℕ
+  rest = drop from line
+
+  abbrev at : ℕ
+  at = position_or_len (λ b. eqb b space) rest
+
+  pub first_space : (n : ℕ) → Some n ≡ position (λ b. eqb b space) (take (length line - from) rest)
+      → (from + n ≡ word_end line from) × (from + n ≤ length line)
+  unfolding word_end
+  first_space n e = go (ltb at (length rest)) refl (rw (part_from line from) at e)
+    where
+      go : (t : Bool) → ltb at (length rest) ≡ t → Some n ≡ cond t (Some at) None
+          → (from + n ≡ from + word_length rest) × (from + n ≤ length line)
+      go true l e =
+          let is : n ≡ at = cc in
+          (omega (arith, is, word_position rest), omega (arith, is, word_position rest, word_within rest, length-drop from line))
+      go false l e = let never : ◌≡◌ {A = ℕ} 0 1 = cc in absurd (omega arith)
+
+  pub no_space : None ≡ position (λ b. eqb b space) (take (length line - from) rest) → length line ≡ word_end line from
+  unfolding word_end
+  no_space e = go (ltb at (length rest)) refl (rw (part_from line from) at e)
+    where
+      go : (t : Bool) → ltb at (length rest) ≡ t → None ≡ cond t (Some at) None → length line ≡ from + word_length rest
+      go true l e = let never : ◌≡◌ {A = ℕ} 0 1 = cc in absurd (omega arith)
+      go false l e =
+          omega (arith, ltb-false at (length rest) l, word_position rest, word_within rest, length-drop from line)
 
 -- ---- the first word, and the rest
 

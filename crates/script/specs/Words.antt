@@ -4,7 +4,7 @@
 --   words     all words of a line
 --   verb_of    which verb a word is
 -- Assumes nothing.
-use Rattle.std.specs.Prelude.{Bool, true, false, cond, List, [], ◌∷◌, ◌++◌, ℕ, suc, ◌+◌, eqb, drop}
+use Rattle.std.specs.Prelude.{Bool, true, false, cond, List, [], ◌∷◌, ℕ, suc, ◌+◌, eqb, drop}
 use Prim.Native.Char.{code}
 use Rattle.matching.specs.Matching.{same}
 use Rattle.script.specs.declared.Verb.{Verb}
@@ -55,11 +55,6 @@ verbs =
     named Feed (code "f" ∷ code "e" ∷ code "e" ∷ code "d" ∷ []) ∷
     named End (code "e" ∷ code "n" ∷ code "d" ∷ []) ∷
     []
-
--- all words of verbs, one behind the other: the code has them so, since a text of its own for each costs much to prove
-abbrev pub joined : List Named → List ℕ
-joined [] = []
-joined (n ∷ ns) = n.word ++ joined ns
 
 abbrev pub verb_in : List Named → List ℕ → Verb
 verb_in [] w = Other

@@ -1,70 +1,55 @@
 // Where a word ends, and which verb it is.
-ghost use Rattle.std.specs.Prelude.{◌≡◌, ◌-◌, ◌≤◌, length, take, drop};
-ghost use Rattle.matching.specs.Matching.{same};
-ghost use Rattle.script.specs.Words.{word_end, joined, verbs, verb_of};
+ghost use Rattle.std.specs.Prelude.{◌≡◌, ◌==◌, ◌≤◌, length, position};
+ghost use Rattle.script.specs.Words.{word_end, verb_of};
 
 use crate::Verb;
 use matching::same_bytes;
+
+fn first_space(text: &[u8]) -> Option<usize>
+    ensures { result ≡ position (λ b. b == 32) text.now }
+{
+    text.iter().position(|b| *b == b' ')
+}
 
 // Where the word that starts at `from` ends: at the next space, or at the line's end.
 pub fn word_end(line: &[u8], from: usize) -> usize
     requires { from ≤ length line.now }
     ensures { (result ≡ word_end line.now from) × (from ≤ result) × (result ≤ length line.now) }
 {
-    let mut i = from;
-    while i < line.len() {
-        if line[i] == b' ' {
-            return i;
-        }
-        i += 1;
+    match first_space(&line[from..]) {
+        Some(n) => from + n,
+        None => line.len(),
     }
-    i
 }
 
-// Whether a word is the part `from` to `end` of all verbs' words, one behind the other.
-fn is_verb(word: &[u8], from: usize, end: usize) -> bool
-    requires { (from ≤ end) × (end ≤ 54) }
-    ensures { result ≡ same word.now (take (end - from) (drop from (joined verbs))) }
-{
-    let words = *b"deliveropenreportclosefiguresfreshwritereadhelpfeedend";
-    same_bytes(word, &words[from..end])
-}
-
+// Which verb a word is. Tests and no `match` on the bytes: that is proved byte by byte, once for each way to be no verb.
+#[tactic(auto, unfolding(crate::specs::Words::verb_of))]
 pub fn verb_of(word: &[u8]) -> Verb
     ensures { result ≡ verb_of word.now }
 {
-    if is_verb(word, 0, 7) {
-        return Verb::Deliver;
+    if same_bytes(word, b"deliver") {
+        Verb::Deliver
+    } else if same_bytes(word, b"open") {
+        Verb::Open
+    } else if same_bytes(word, b"report") {
+        Verb::Report
+    } else if same_bytes(word, b"close") {
+        Verb::Close
+    } else if same_bytes(word, b"figures") {
+        Verb::Figures
+    } else if same_bytes(word, b"fresh") {
+        Verb::Fresh
+    } else if same_bytes(word, b"write") {
+        Verb::Write
+    } else if same_bytes(word, b"read") {
+        Verb::Read
+    } else if same_bytes(word, b"help") {
+        Verb::Help
+    } else if same_bytes(word, b"feed") {
+        Verb::Feed
+    } else if same_bytes(word, b"end") {
+        Verb::End
+    } else {
+        Verb::Other
     }
-    if is_verb(word, 7, 11) {
-        return Verb::Open;
-    }
-    if is_verb(word, 11, 17) {
-        return Verb::Report;
-    }
-    if is_verb(word, 17, 22) {
-        return Verb::Close;
-    }
-    if is_verb(word, 22, 29) {
-        return Verb::Figures;
-    }
-    if is_verb(word, 29, 34) {
-        return Verb::Fresh;
-    }
-    if is_verb(word, 34, 39) {
-        return Verb::Write;
-    }
-    if is_verb(word, 39, 43) {
-        return Verb::Read;
-    }
-    if is_verb(word, 43, 47) {
-        return Verb::Help;
-    }
-    if is_verb(word, 47, 51) {
-        return Verb::Feed;
-    }
-    if is_verb(word, 51, 54) {
-        return Verb::End;
-    }
-    Verb::Other
 }
