@@ -7,9 +7,12 @@ mod rooms;
 ghost use Rattle.std.specs.Prelude.{◌≡◌, true, ◌&&◌, ◌≤◌, ◌<◌, length, take};
 ghost use Rattle.rising.specs.Rising.{rising};
 ghost use Rattle.rows.specs.Rows.{rows_fit};
-ghost use Rattle.house.specs.House.{taken_of, slot_sound, slots_sound, promised_from, sound, soundness};
+ghost use Rattle.house.specs.House.{taken_of, slot_sound, slots_sound, promised_from, promised, sound, soundness};
 ghost use Rattle.house.specs.House.{house_of, Lent};
+ghost use Rattle.prelude.specs.Checks.{checked};
+ghost use Rattle.house.specs.Calls.{slot_checks};
 
+use answers::Answer;
 use house::{House, Slot};
 pub use rooms::{room_of, unfilled_of};
 
@@ -118,4 +121,24 @@ pub fn is_sound(house: House) -> bool
     ensures { result ≡ sound house }
 {
     soundness_of(house).is_some()
+}
+
+// The checks of a call that names a slot, 15, 1 and 2: the house is sound, there is such a slot, and it is open. Tells
+// the slot and the rows promised. And that there are sixteen slots.
+pub fn open_at(house: &House, slot: u32) -> Result<(usize, u32), Answer>
+    ensures { (result ≡ checked Err (slot_checks house.now slot) (Ok (slot, promised house.now)))
+        × (length house.now.slots ≡ 16) }
+{
+    let Some(owed) = soundness_lent(house.slots, &house.keys, &house.counts, house.used) else {
+        return Err(Answer::NotSound);
+    };
+    let i = slot as usize;
+    if House::SLOTS <= i {
+        return Err(Answer::NoSuchSlot);
+    }
+    let s = house.slots[i];
+    if !s.taken {
+        return Err(Answer::SlotClosed);
+    }
+    Ok((i, owed))
 }
