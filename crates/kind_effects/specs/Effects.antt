@@ -18,48 +18,16 @@ use Rattle.session.specs.Session.{most_open, most_results, most_wafers, part_of,
 use Rattle.session.specs.Verdicts.{stands, still_open}
 
 abbrev pub with_pcr : Standing → Standing
-with_pcr st =
-    record {
-      place = st.place;
-      order = st.order;
-      opened = st.opened;
-      pcr = true;
-      results = st.results;
-      wafers = st.wafers;
-    }
+with_pcr st = record st { pcr = true }
 
 abbrev pub with_part : Standing → Standing
-with_part st =
-    record {
-      place = st.place;
-      order = st.order;
-      opened = st.opened + 1;
-      pcr = st.pcr;
-      results = st.results;
-      wafers = st.wafers;
-    }
+with_part st = record st { opened = st.opened + 1 }
 
 abbrev pub with_result : Standing → Standing
-with_result st =
-    record {
-      place = st.place;
-      order = st.order;
-      opened = st.opened - 1;
-      pcr = st.pcr;
-      results = st.results + 1;
-      wafers = st.wafers;
-    }
+with_result st = record st { opened = st.opened - 1; results = st.results + 1 }
 
 abbrev pub with_wafers : Standing → ℕ → Standing
-with_wafers st wafers =
-    record {
-      place = st.place;
-      order = st.order;
-      opened = st.opened;
-      pcr = st.pcr;
-      results = st.results;
-      wafers = wafers;
-    }
+with_wafers st wafers = record st { wafers = wafers }
 
 -- a part opens or closes at its rank
 abbrev pub opens : Standing → ℕ → ℕ → Change

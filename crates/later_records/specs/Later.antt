@@ -17,15 +17,7 @@ use Rattle.session.specs.declared.Verdict.TheVariants.{Refused}
 use Rattle.kind_effects.specs.Effects.{judge_said}
 
 abbrev pub at : Standing → Place → Standing
-at st place =
-    record {
-      place = place;
-      order = st.order;
-      opened = st.opened;
-      pcr = st.pcr;
-      results = st.results;
-      wafers = st.wafers;
-    }
+at st place = record st { place = place }
 
 -- Later records: 3, 6, 8, 7, then what its kind asks by itself
 unfoldable pub judge_later : Standing → List ℕ → List ℕ → Verdict
