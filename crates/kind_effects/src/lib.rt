@@ -2,7 +2,7 @@
 // checks", Later records, 9 to 12, 14 and 20; #103, 22, 23 and 33.
 #![tactic(auto)]
 
-ghost use Rattle.std.specs.Prelude.{◌≡◌, true, map, ◌≤◌, ◌<◌, ◌+◌, ◌*◌, length, take};
+ghost use Rattle.std.specs.Prelude.{◌≡◌, true, cond, Ok, Err, map, ◌≤◌, ◌<◌, ◌+◌, ◌*◌, length, take};
 ghost use Rattle.rising.specs.Rising.{rising, rank, held};
 ghost use Rattle.session.specs.Session.{LentParts, part_of, key_of, wafer_head};
 ghost use Rattle.session.specs.Verdicts.{still_open};
@@ -27,14 +27,26 @@ fn key_of(head: u8, site: u8, bin: u16) -> u32
     (u32::from(head) * 256 + u32::from(site)) * 65536 + u32::from(bin)
 }
 
+// The rank of a number among those that are open, `Ok` where it is one of them.
+fn place_of(cells: &[u64], used: usize, number: u64) -> Result<usize, usize>
+    requires { (used ≤ length cells.now) × (rising (take used cells.now) ≡ true) }
+    ensures { result ≡ cond (held number (take used cells.now)) Ok Err (rank number (take used cells.now)) }
+{
+    let rank = rank_of(cells, used, number);
+    if holds(cells, used, rank, number) {
+        Ok(rank)
+    } else {
+        Err(rank)
+    }
+}
+
 fn judge_pir(st: Standing, parts: &[u64], part: u64) -> Verdict
     requires { LentParts st parts.now }
     ensures { result ≡ judge_pir st (take st.opened parts.now) part }
 {
-    let rank = rank_of(parts, st.opened, part);
-    if holds(parts, st.opened, rank, part) {
+    let Err(rank) = place_of(parts, st.opened, part) else {
         return Verdict::Refused(Answer::PartOpen);
-    }
+    };
     if Session::PARTS <= st.opened {
         return Verdict::Refused(Answer::TooManyParts);
     }
@@ -49,10 +61,9 @@ fn judge_prr(st: Standing, parts: &[u64], part: u64, key: u32) -> Verdict
     requires { LentParts st parts.now }
     ensures { result ≡ judge_prr st (take st.opened parts.now) part key }
 {
-    let rank = rank_of(parts, st.opened, part);
-    if !holds(parts, st.opened, rank, part) {
+    let Ok(rank) = place_of(parts, st.opened, part) else {
         return Verdict::Refused(Answer::PartNotOpen);
-    }
+    };
     let Some(results) = st.results.checked_add(1) else {
         return Verdict::Refused(Answer::TooManyResults);
     };
@@ -89,25 +100,30 @@ fn judge_mrr(st: Standing, parts: &[u64]) -> Verdict
     Verdict::Taken(Change::Stands(st))
 }
 
-// Whether an open wafer is on a head, whose rank among their heads is `at`.
-fn on_head(wafers: &[u64], used: usize, at: usize, head: u8) -> bool
-    requires { (used ≤ length wafers.now) × (rising (map wafer_head (take used wafers.now)) ≡ true)
-        × (at ≡ rank head (map wafer_head (take used wafers.now))) }
-    ensures { result ≡ held head (map wafer_head (take used wafers.now)) }
+// The same of a head among those of the open wafers. As many wafers are below the first of a head as heads are below it.
+fn place_on(wafers: &[u64], used: usize, head: u8) -> Result<usize, usize>
+    requires { (used ≤ length wafers.now) × (rising (map wafer_head (take used wafers.now)) ≡ true) }
+    ensures { result ≡ cond (held head (map wafer_head (take used wafers.now))) Ok Err
+        (rank head (map wafer_head (take used wafers.now))) }
 {
-    at < used && wafers[at] / 256 == u64::from(head)
+    let rank = rank_of(wafers, used, part_of(head, 0));
+    if rank < used && wafers[rank] / 256 == u64::from(head) {
+        Ok(rank)
+    } else {
+        Err(rank)
+    }
 }
 
-// The wafers are lent by themselves. As many of them are below the first of a head as heads are below it.
+// The wafers are lent by themselves. judge_wir and judge_wrr are no instances of judge_pir and judge_prr: what they count,
+// the answers and the change differ, so a function of both would be parameters alone.
 fn judge_wir(st: Standing, wafers: &[u64], head: u8, group: u8) -> Verdict
     requires { (st.wafers ≤ length wafers.now)
         × (rising (map wafer_head (take st.wafers wafers.now)) ≡ true) }
     ensures { result ≡ judge_wir st (take st.wafers wafers.now) head group }
 {
-    let rank = rank_of(wafers, st.wafers, part_of(head, 0));
-    if on_head(wafers, st.wafers, rank, head) {
+    let Err(rank) = place_on(wafers, st.wafers, head) else {
         return Verdict::Refused(Answer::WrongWafer);
-    }
+    };
     if Session::WAFERS <= st.wafers {
         return Verdict::Refused(Answer::TooManyWafers);
     }
@@ -124,10 +140,9 @@ fn judge_wrr(st: Standing, wafers: &[u64], wafer: u64) -> Verdict
         × (rising (map wafer_head (take st.wafers wafers.now)) ≡ true) }
     ensures { result ≡ judge_wrr st (take st.wafers wafers.now) wafer }
 {
-    let rank = rank_of(wafers, st.wafers, wafer);
-    if !holds(wafers, st.wafers, rank, wafer) {
+    let Ok(rank) = place_of(wafers, st.wafers, wafer) else {
         return Verdict::Refused(Answer::WrongWafer);
-    }
+    };
     let next = Standing {
         wafers: st.wafers - 1,
         ..st

@@ -4,9 +4,9 @@ use Rattle.std.proofs.Common.{rules}
 use Rattle.kind_effects.specs.Effects.{judge_pir}
 use Rattle.kind_effects.proofs.judge_pir.Goals as goal
 
-pub returns-then-holds : goal.returns-then-holds
+pub returns-in_default : goal.returns-in_default
 unfolding judge_pir
-returns-then-holds c = search rules
+returns-in_default c = search rules
 
 pub returns-then-st-ge-PARTS : goal.returns-then-st-ge-PARTS
 unfolding judge_pir

@@ -7,15 +7,12 @@ use Rattle.kind_effects.specs.Effects.{judge_wrr}
 use Rattle.kind_effects.proofs.Laws.{held_opened}
 use Rattle.kind_effects.proofs.judge_wrr.Goals as goal
 
-pub rank_of-rank-requires : goal.rank_of-rank-requires
-rank_of-rank-requires c = search (rules, heads_rise_lem)
+pub place_of-requires : goal.place_of-requires
+place_of-requires c = search (rules, heads_rise_lem)
 
-pub holds-requires : goal.holds-requires
-holds-requires c = search (rules, heads_rise_lem)
-
-pub returns-then-not-holds : goal.returns-then-not-holds
+pub returns-in_default : goal.returns-in_default
 unfolding judge_wrr
-returns-then-not-holds c = search rules
+returns-in_default c = search rules
 
 pub overflow_sub-next : goal.overflow_sub-next
 overflow_sub-next c = search (rules, held_opened)
