@@ -28,9 +28,7 @@ fn alone() -> Room
 pub fn begin() -> Stream
     ensures { Begun result }
 {
-    let session = Session::begin();
-    let standing = session.standing;
-    let parts = session.parts;
+    let Session { standing, parts } = Session::begin();
     Stream {
         keys: [0; House::ROWS],
         counts: [0; House::ROWS],
@@ -59,35 +57,25 @@ fn follow_on(s: Stream, buf: &mut [u8], got: usize) -> Stream
         × (s.accepted + (s.held + got) ≤ past_count) }
     ensures { Followed s buf.old got result buf.new }
 {
-    let mut keys = s.keys;
-    let mut counts = s.counts;
-    let mut guesses = s.guesses;
-    let mut parts = s.parts;
-    let st = s.standing;
     let end = s.held + got;
+    let mut next = s;
     let w = walk(
-        &mut keys,
-        &mut counts,
-        &mut guesses,
-        &mut parts,
+        &mut next.keys,
+        &mut next.counts,
+        &mut next.guesses,
+        &mut next.parts,
         alone(),
         MOST_LENGTH,
-        stage_of(s.used, st, s.accepted, None, 0, true),
-        &buf[0..end],
+        stage_of(s.used, s.standing, s.accepted, None, 0, true),
+        &buf[..end],
     );
-    let standing = standing_of(w);
-    let fate = w.fate;
-    let held = keep(buf, kept_from(fate, w.at, end), end);
     Stream {
-        keys,
-        counts,
         used: w.used,
-        guesses,
-        standing,
-        parts,
+        standing: standing_of(w),
         accepted: w.accepted,
-        fate,
-        held,
+        fate: w.fate,
+        held: keep(buf, kept_from(w.fate, w.at, end), end),
+        ..next
     }
 }
 
@@ -97,8 +85,7 @@ pub fn follow(s: Stream, buf: &mut [u8], got: usize) -> Stream
         × (s.accepted + (s.held + got) ≤ past_count) }
     ensures { Followed s buf.old got result buf.new }
 {
-    let fate = s.fate;
-    match fate {
+    match s.fate {
         None => follow_on(s, buf, got),
         Some(_) => s,
     }

@@ -4,4 +4,4 @@ use Rattle.following.proofs.Alone.{begins}
 use Rattle.following.proofs.chunks.begin.Goals as goal
 
 pub returns : goal.returns
-returns c = rw c.begin-session.ensures begins
+returns c = rw c.begin.ensures begins
