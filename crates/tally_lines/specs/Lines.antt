@@ -1,10 +1,11 @@
 -- The lines that end a stream. Document 01, "Tally program".
 --
---   row_line   the HBR line of a row
+--   row_line, lines_of   the HBR line of a row, and the lines of rows
 --   refused_line, too_long_line, unfinished_line   the three other endings
 --   numbered, said   words and a number, and the end of a line behind it
 -- Assumes nothing.
 use Rattle.std.specs.Prelude.{ℕ, List, [], ◌∷◌, ◌++◌, Option, Some, None}
+use Rattle.std.specs.List.{flat_map}
 use Prim.Native.Char.{code}
 use Rattle.answers.specs.declared.Answer.{Answer}
 use Rattle.answers.specs.Numbers.{number_of, values_of}
@@ -26,6 +27,10 @@ row_meaning r =
 
 unfoldable pub row_line : Row → List ℕ
 row_line r = text_of (row_meaning r)
+
+-- .. and the lines of rows, one behind another
+abbrev pub lines_of : List Row → List ℕ
+lines_of rows = flat_map row_line rows
 
 -- `refused `, ` at record `, `, head `, ` site `, `too long`, `unfinished after record `
 abbrev pub refused_word : List ℕ

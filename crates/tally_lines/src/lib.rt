@@ -2,11 +2,11 @@
 // it is lent; a row's line goes to an offset.
 #![tactic(auto)]
 
-ghost use Rattle.std.specs.Prelude.{◌+◌, ◌≤◌, Some, length};
+ghost use Rattle.std.specs.Prelude.{◌+◌, ◌*◌, ◌≤◌, Some, length};
 ghost use Rattle.answers.specs.Numbers.{OfBytes};
 ghost use Rattle.output.specs.Placed.{Put, Room};
 ghost use Rattle.tally_lines.specs.Lines.{numbered, said, ending, at_ending, refusal, refused_line, too_long_line};
-ghost use Rattle.tally_lines.specs.Lines.{unfinished_line, row_line};
+ghost use Rattle.tally_lines.specs.Lines.{unfinished_line, row_line, lines_of};
 ghost use Rattle.tally_lines.specs.Writing.{cell, two_cells, cells, hbr_line, most_line, most_refused, PutLine, LaidAt};
 
 use answers::Answer;
@@ -145,4 +145,17 @@ pub fn put_row(out: &mut [u8], at: usize, row: Row) -> usize
     ensures { LaidAt (row_line row) out.old at result out.new }
 {
     put_line(&mut out[at..], row.head, row.site, row.bin, row.count)
+}
+
+// The lines of rows, one behind another.
+pub fn put_rows(out: &mut [u8], rows: &[Row]) -> usize
+    requires { most_line * length rows.now ≤ length out.old }
+    ensures put { Put (lines_of rows.now) out.old result out.new }
+    ensures few { result ≤ most_line * length rows.now }
+{
+    let mut at: usize = 0;
+    for row in rows {
+        at += put_row(out, at, *row);
+    }
+    at
 }

@@ -1,69 +1,52 @@
 -- Laws of the text that ends a stream: that the rows' lines follow each other, and what each ending is.
 -- Assumes nothing.
 use Rattle.std.specs.Prelude.{Some, None}
-use mathlib.Core.Path.{◌≡◌, refl, ap, sym, ◌∙◌}
+use mathlib.Core.Path.{◌≡◌, refl, ap, sym, subst, ◌∙◌}
 use mathlib.Core.Bool.{Bool}
-use mathlib.Core.List.{List, [], ◌∷◌, ◌++◌, append_assoc}
-use Prim.Native.Nat.{ℕ, ◌+◌, ◌-◌, ◌≤◌, ◌<◌}
-use native.Mathlib.Numerals.{add-one}
+use mathlib.Core.List.{List, [], ◌∷◌, ◌++◌}
+use Prim.Native.Nat.{ℕ, zero, suc, ◌+◌, ◌≤◌, ◌<◌}
 use native.Mathlib.Omega.{arith}
-use lib.ListN.{length, take, drop, length-append, length-take}
-use lib.Seq.{take-append_seam, drop-append-add, drop-drop}
+use lib.ListN.{length, get_or, take, length-take}
 use Rattle.answers.specs.declared.Answer.{Answer}
 use Rattle.house.specs.declared.House.{House}
 use Rattle.house.specs.declared.Row.{Row}
-use Rattle.house.specs.Report.{row_at}
+use Rattle.house.specs.declared.Listing.{Listing}
+use Rattle.house.specs.declared.Reported.{Reported}
+use Rattle.house.specs.Report.{row_at, listing}
+use Rattle.house.proofs.Reporting.{listing_reported, listing_few, listing_at}
 use Rattle.order.specs.Laws.{ended as is_ended}
-use Rattle.output.specs.Placed.{Put}
-use Rattle.tally_lines.specs.Lines.{row_line, refused_line, too_long_line}
-use Rattle.tally_lines.specs.Writing.{LaidAt}
+use Rattle.tally_lines.specs.Lines.{row_line, lines_of, refused_line, too_long_line}
+use Rattle.tally_lines.proofs.Rows.{lines_more}
 use Rattle.walking.specs.declared.Stop.{Stop}
 use Rattle.walking.specs.declared.Stop.TheVariants.{Refused, TooLong}
 use Rattle.following.specs.declared.Stream.{Stream}
 use Rattle.following.specs.Following.{standing}
-use Rattle.tallying.specs.Text.{row_lines, stopped_line, left_over, closing, ended_with, ended}
+use Rattle.tallying.specs.Text.{row_lines, report_lines, stopped_line, left_over, closing, ended_with, ended}
 use Rattle.following.specs.Lent.{stream_house, progress_of}
-use Rattle.tallying.specs.Lined.{Lined}
-use Rattle.cutting.proofs.Moves.{front_part}
 
--- ---- line after line
+-- ---- the rows
 
-pub lined_none : (h : House) (old : List ℕ) → Lined h old 0 old 0
+-- the lines of the first rows, where they are those of a house
+lines_rows : (h : House) (rows : List Row) (d : Row) (n : ℕ) → n ≤ length rows
+    → ((i : ℕ) → i < n → get_or rows i d ≡ row_at h 0 i) → lines_of (take n rows) ≡ row_lines h n
 unfolding row_lines
-lined_none h old = record { long = refl; count = refl; few = omega arith; laid = refl }
+lines_rows h rows d zero few are = refl
+lines_rows h rows d (suc n) few are =
+    lines_more rows n d (omega (arith, few))
+    ∙ ap (λ (r : Row). lines_of (take n rows) ++ row_line r) (are n (omega arith))
+    ∙ ap (λ (l : List ℕ). l ++ row_line (row_at h 0 n))
+    (lines_rows h rows d n (omega (arith, few)) (λ i low. are i (omega (arith, low))))
 
-pub lined_on : (h : House) (old : List ℕ) (i : ℕ) (mid : List ℕ) (at : ℕ) (row : Row) (n : ℕ) (new : List ℕ)
-    → length new ≡ length mid → row ≡ row_at h 0 i → Lined h old i mid at → LaidAt (row_line row) mid at n new
-    → Lined h old (i + 1) new (at + n)
-unfolding row_lines
-lined_on h old i mid at row n new same is l m =
-    let t = row_lines h i in
-    let line = row_line (row_at h 0 i) in
-    let here : at ≡ length t = l.count in
-    let size : n ≡ length line = m.count ∙ ap (λ (r : Row). length (row_line r)) is in
-    let more : row_lines h (i + 1) ≡ t ++ line = ap (row_lines h) (add-one i) in
-    record {
-      long = same ∙ l.long;
-      count = rw (more, length-append t line) (omega (arith, here, size));
-      few = omega (arith, l.few, m.few);
-      laid =
-          m.laid
-          ∙ rw (
-            more,
-            is,
-            l.laid,
-            here,
-            take-append_seam t (drop (length t) old),
-            drop-append-add t (drop (length t) old) (length line),
-            drop-drop (length line) (length t) old,
-            length-append t line,
-            append_assoc t line (drop (length t + length line) old),
-          );
-    }
-
-pub lined_put : (h : House) (old : List ℕ) (i : ℕ) (new : List ℕ) (at : ℕ) → Lined h old i new at → {n : ℕ} → i ≡ n
-    → Put (row_lines h n) old at new
-lined_put h old i new at l is = rw (← is) (record { count = l.count; laid = l.laid })
+-- .. and those of a listing
+pub lines_listed : (h : House) (d : Row) {list : Listing} → list ≡ listing h 0 1024 → length list.rows ≡ 1024
+    → lines_of (take list.reported.rows list.rows) ≡ report_lines h
+lines_listed h d {list} is =
+    subst
+    (λ (l : Listing). length l.rows ≡ 1024 → lines_of (take l.reported.rows l.rows) ≡ report_lines h) (sym is)
+    (λ long.
+    lines_rows h (listing h 0 1024).rows d (listing h 0 1024).reported.rows
+    (omega (arith, long, listing_few h 0 1024)) (λ i low. listing_at h 0 1024 i d low)
+    ∙ ap (λ (r : Reported). row_lines h r.rows) (listing_reported h 0 1024))
 
 -- ---- bytes left over
 
@@ -73,10 +56,10 @@ ended_left h k [] some = absurd (omega arith)
 ended_left h k (b ∷ bs) some = refl
 
 module _ (h : House) (k held : ℕ) (buf : List ℕ) where
-  pub put_left : 0 < held → held ≤ length buf → (a : Answer) → a ≡ left_over h (take (held - 0) buf)
+  pub put_left : 0 < held → held ≤ length buf → (a : Answer) → a ≡ left_over h (take held buf)
       → refused_line a (k + 1) ≡ ended_with h k (take held buf)
   put_left some there a is =
-      ap (λ (x : Answer). refused_line x (k + 1)) (is ∙ ap (left_over h) (front_part held buf))
+      ap (λ (x : Answer). refused_line x (k + 1)) is
       ∙ sym (ended_left h k (take held buf) (omega (arith, length-take held buf, some, there)))
 
   none_held : held ≤ 0 → take held buf ≡ []

@@ -19,59 +19,47 @@ use order::Place;
 use reports::list_rows;
 use session::{Session, is_start, verdict_answer};
 use soundness::is_sound;
-use tally_lines::{put_refused, put_row, put_too_long, put_unfinished};
+use tally_lines::{put_refused, put_rows, put_too_long, put_unfinished};
 use walking::Stop;
 
 // The house that a stream's rows and session stand for.
 fn house_of(s: Stream) -> House
     ensures { result ≡ stream_house s }
 {
-    let keys = s.keys;
-    let counts = s.counts;
-    let standing = s.standing;
-    let parts = s.parts;
-    let session = Session { standing, parts };
-    let mut h = House::fresh();
-    h.keys = keys;
-    h.counts = counts;
-    h.used = s.used;
-    h.slots[0] = Slot {
-        taken: true,
-        floor: 1024,
-        session,
-        held: 0,
+    let Stream {
+        keys,
+        counts,
+        used,
+        standing,
+        parts,
+        ..
+    } = s;
+    let mut slots = [Slot::closed(); House::SLOTS];
+    slots[0] = Slot {
+        session: Session { standing, parts },
+        ..Slot::opened(1024)
     };
-    h
+    House {
+        keys,
+        counts,
+        used,
+        slots,
+    }
 }
 
 // One HBR line for each row, in the order of a report.
-fn put_rows(out: &mut [u8], h: House) -> usize
+fn put_report(out: &mut [u8], h: House) -> usize
     requires { most_text ≤ length out.old }
     ensures { Put (report_lines h) out.old result out.new }
 {
     let list = list_rows(h, 0, 1024);
-    let found = list.reported;
-    let rows = found.rows;
-    let mut at: usize = 0;
-    let mut i: usize = 0;
-    while i < rows {
-        at += put_row(out, at, list.rows[i]);
-        i += 1;
-    }
-    at
+    put_rows(out, &list.rows[..list.reported.rows])
 }
 
 fn is_ended(place: Place) -> bool
     ensures { result ≡ is_ended place }
 {
-    match place {
-        Place::Start => false,
-        Place::Header => false,
-        Place::Lot => false,
-        Place::Setup => false,
-        Place::Body => false,
-        Place::Ended => true,
-    }
+    place == Place::Ended
 }
 
 // What bytes left over are refused with: 3, but the first record is all bytes where they are fewer than six. It is
@@ -79,13 +67,11 @@ fn is_ended(place: Place) -> bool
 fn left_over(s: Stream, bytes: &[u8]) -> Answer
     ensures { result ≡ left_over (stream_house s) bytes.now }
 {
-    let st = s.standing;
-    let place = st.place;
-    if !is_start(place) {
+    if !is_start(s.standing.place) {
         return Answer::NotOneRecord;
     }
     if is_sound(house_of(s)) {
-        verdict_answer(judge_first(st, bytes))
+        verdict_answer(judge_first(s.standing, bytes))
     } else {
         Answer::NotSound
     }
@@ -96,14 +82,11 @@ fn finish_going(s: Stream, buf: &[u8], out: &mut [u8]) -> usize
     ensures { Put (ended_with (stream_house s) s.accepted (take s.held buf.now))
         out.old result out.new }
 {
-    let held = s.held;
-    if 0 < held {
-        return put_refused(out, left_over(s, &buf[0..held]), s.accepted + 1);
+    if 0 < s.held {
+        return put_refused(out, left_over(s, &buf[..s.held]), s.accepted + 1);
     }
-    let st = s.standing;
-    let place = st.place;
-    if is_ended(place) {
-        put_rows(out, house_of(s))
+    if is_ended(s.standing.place) {
+        put_report(out, house_of(s))
     } else {
         put_unfinished(out, s.accepted)
     }
@@ -125,8 +108,7 @@ pub fn finish(s: Stream, buf: &[u8], out: &mut [u8]) -> usize
     requires { (s.held ≤ length buf.now) × (s.accepted + 1 ≤ past_count) × (most_text ≤ length out.old) }
     ensures { Put (ended (progress_of s buf.now)) out.old result out.new }
 {
-    let fate = s.fate;
-    match fate {
+    match s.fate {
         None => finish_going(s, buf, out),
         Some(why) => put_stopped(out, why, s.accepted),
     }

@@ -10,25 +10,25 @@ use Rattle.tallying.proofs.Texts.{put_left, put_closing}
 use Rattle.tallying.proofs.finish_going.Goals as goal
 
 -- the promise first: it is what a wrong line is refused by
-pub returns-then-held-gt0 : goal.returns-then-held-gt0
-returns-then-held-gt0 c =
+pub returns-then-s-gt0 : goal.returns-then-s-gt0
+returns-then-s-gt0 c =
     put_as
     (put_left (stream_house c.args.s) c.args.s.accepted c.args.s.held c.args.buf.now
-    c.if-held-gt0.true c.requires.0 _ c.left_over.ensures) c.put_refused.ensures
+    c.if-s-gt0.true c.requires.0 _ c.left_over.ensures) c.put_refused.ensures
 
 pub returns-then-is_ended : goal.returns-then-is_ended
 returns-then-is_ended c =
     put_as
     (ap report_lines c.house_of.ensures
     ∙ put_closing (stream_house c.args.s) c.args.s.accepted c.args.s.held
-    c.args.buf.now c.if-held-gt0.false true (sym c.if-is_ended.true ∙ c.is_ended.ensures))
-    c.put_rows.ensures
+    c.args.buf.now c.if-s-gt0.false true (sym c.if-is_ended.true ∙ c.is_ended.ensures))
+    c.put_report.ensures
 
 pub returns-else-is_ended : goal.returns-else-is_ended
 returns-else-is_ended c =
     put_as
     (put_closing (stream_house c.args.s) c.args.s.accepted c.args.s.held
-    c.args.buf.now c.if-held-gt0.false false (sym c.if-is_ended.false ∙ c.is_ended.ensures))
+    c.args.buf.now c.if-s-gt0.false false (sym c.if-is_ended.false ∙ c.is_ended.ensures))
     c.put_unfinished.ensures
 
 pub put_unfinished-requires : goal.put_unfinished-requires
