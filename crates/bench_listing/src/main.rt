@@ -7,7 +7,7 @@ ghost use Rattle.tally_lines.specs.Writing.{most_line};
 
 use house::Row;
 use std::io;
-use tally_lines::put_row;
+use tally_lines::put_rows;
 use transcript::{say, say_number};
 
 // Listings.
@@ -49,20 +49,6 @@ fn rows() -> [Row; 1024]
     all
 }
 
-// The lines of all rows, one behind another. Rows come by value: to lend a slice of structs takes a proof by hand.
-fn list(out: &mut [u8], all: [Row; 1024]) -> usize
-    requires { (most_line * 1024 ≤ length out.old) × (length all ≡ 1024) }
-    ensures { result ≤ most_line * 1024 }
-{
-    let mut at: usize = 0;
-    let mut i: usize = 0;
-    while i < 1024 {
-        at += put_row(out, at, all[i]);
-        i += 1;
-    }
-    at
-}
-
 fn main(rt: HostRuntime) -> io::Result<()> {
     let all = rows();
     let mut out = [0u8; 65536];
@@ -70,7 +56,7 @@ fn main(rt: HostRuntime) -> io::Result<()> {
     let mut last: usize = 0;
     let mut turn: u64 = 0;
     while turn < TURNS {
-        last = list(&mut out, all);
+        last = put_rows(&mut out, &all);
         bytes += last as u64;
         turn += 1;
     }

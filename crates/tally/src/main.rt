@@ -5,7 +5,7 @@
 
 ghost use Rattle.std.specs.Prelude.{◌≡◌, ◌+◌, ◌≤◌, ◌<◌, length};
 ghost use Rattle.tallying.specs.Lined.{most_text};
-ghost use Rattle.tally.specs.Reading.{roomy, plenty, more_after, Reads, is_going, Through, Told};
+ghost use Rattle.tally.specs.Reading.{roomy, plenty, more_after, Reads, Through, Told};
 
 use following::{Stream, begin, follow};
 use std::io;
@@ -40,30 +40,11 @@ struct Text {
     input: Input,
 }
 
-fn read_buffer() -> [u8; BUFFER]
-    ensures { roomy ≡ length result }
-{
-    [0; BUFFER]
-}
-
-fn is_going(s: Stream) -> bool
-    ensures { result ≡ is_going s.fate }
-{
-    let fate = s.fate;
-    match fate {
-        None => true,
-        Some(_) => false,
-    }
-}
-
 // Whether more may come: not behind a read that gave nothing, nor past what any run reads.
 fn more_after(got: usize, read: u64) -> bool
     ensures { result ≡ more_after got read }
 {
-    if got < 1 {
-        return false;
-    }
-    read < PLENTY
+    0 < got && read < PLENTY
 }
 
 // Reads once, behind the bytes that are held. A read that gives nothing, or fails, is the end of the input.
@@ -71,11 +52,13 @@ fn read_more(stdin: &mut impl Read, input: Input, buf: &mut [u8], held: usize) -
     requires { (held ≤ length buf.old) × (length buf.old ≡ roomy) × (input.read < plenty) }
     ensures { Reads input held buf.old result buf.new }
 {
-    let part = &mut buf[held..];
-    let got = stdin.read(part).unwrap_or(0);
+    let got = stdin.read(&mut buf[held..]).unwrap_or(0);
     let read = input.read + got as u64;
-    let more = more_after(got, read);
-    Input { read, got, more }
+    Input {
+        read,
+        got,
+        more: more_after(got, read),
+    }
 }
 
 // Chunk after chunk, until the stream stops or the input is at its end.
@@ -89,7 +72,7 @@ fn follow_all(stdin: &mut impl Read, buf: &mut [u8]) -> Ended
         got: 0,
         more: true,
     };
-    while input.more && is_going(s) {
+    while input.more && s.fate.is_none() {
         input = read_more(stdin, input, buf, s.held);
         s = follow(s, buf, input.got);
     }
@@ -101,19 +84,16 @@ fn tally(stdin: &mut impl Read, buf: &mut [u8], out: &mut [u8]) -> Text
     requires { (length buf.old ≡ roomy) × (most_text ≤ length out.old) }
     ensures { Told out.old result out.new }
 {
-    let e = follow_all(stdin, buf);
-    let stream = e.stream;
-    let input = e.input;
+    let Ended { stream, input } = follow_all(stdin, buf);
     let long = finish(stream, buf, out);
     Text { long, input }
 }
 
 fn main(rt: HostRuntime) -> io::Result<()> {
-    let mut space = read_buffer();
+    let mut space = [0u8; BUFFER];
     let mut out = [0u8; 65536];
     let text = tally(&mut rt.stdin(), &mut space, &mut out);
-    let n = text.long;
-    let written = rt.write_all(&out[0..n]);
+    let written = rt.write_all(&out[..text.long]);
     if written.is_err() {
         rt.eprint("tally: the text could not be written\n")?;
     }

@@ -4,4 +4,4 @@ use Rattle.tally.proofs.Laws.{told}
 use Rattle.tally.proofs.tally.Goals as goal
 
 pub returns : goal.returns
-returns g c = told _ _ _ c.follow_all-e.ensures _ _ _ c.finish-long.ensures
+returns g c = told _ _ _ c.follow_all.ensures _ _ _ c.finish-long.ensures
