@@ -5,13 +5,13 @@
 
 mod each;
 
-ghost use Rattle.std.specs.Prelude.{◌≡◌, ◌≤◌, length};
+ghost use Rattle.std.specs.Prelude.{◌≡◌, ◌==◌, ◌≤◌, length, position};
 ghost use Rattle.output.specs.Placed.{outcome, placed_at};
 ghost use Rattle.input.specs.Lines.{up_to};
 
 use answers::Answer;
 pub use each::each_line;
-use output::put_part;
+use output::put_bytes;
 use std::io::Read;
 
 // Of the first `got` bytes of the chunk the last `left` are still to be taken.
@@ -55,42 +55,35 @@ pub fn begin() -> Input
     Input { got: 0, left: 0 }
 }
 
+// The place of the first `stop`, if there is one.
+fn first(bytes: &[u8], stop: u8) -> Option<usize>
+    ensures { result ≡ position (λ b. b == stop) bytes.now }
+{
+    bytes.iter().position(|b| *b == stop)
+}
+
 // How many bytes stand before the first `stop`; all of them, where there is none.
 pub fn until(bytes: &[u8], stop: u8) -> usize
     ensures { (result ≡ length (up_to stop bytes.now)) × (result ≤ length bytes.now) }
 {
-    let mut i: usize = 0;
-    while i < bytes.len() {
-        if bytes[i] == stop {
-            return i;
-        }
-        i += 1;
-    }
-    i
+    first(bytes, stop).unwrap_or(bytes.len())
 }
 
 // Lays bytes behind the first `long` of the line, where they fit.
 fn gather(line: &mut [u8], long: usize, bytes: &[u8]) -> Result<usize, Answer>
     ensures { outcome result line.new ≡ placed_at bytes.now line.old long }
 {
-    if line.len() < long {
+    if line.len() < long || line.len() - long < bytes.len() {
         return Err(Answer::OutputTooShort);
     }
-    if line.len() - long < bytes.len() {
-        return Err(Answer::OutputTooShort);
-    }
-    let n = put_part(&mut line[long..], bytes, 0, bytes.len());
-    Ok(n)
+    Ok(put_bytes(&mut line[long..], bytes))
 }
 
 // How many bytes are left behind a line that ends at `end`, and behind its LF.
 fn left_behind(bytes: &[u8], end: usize) -> usize
     requires { end ≤ length bytes.now }
 {
-    if end < bytes.len() {
-        return bytes.len() - end - 1;
-    }
-    0
+    (bytes.len() - end).saturating_sub(1)
 }
 
 // Takes what these bytes have of the line. A line that did not fit goes on as one of no bytes.
@@ -99,24 +92,21 @@ fn take_part(g: Gathered, line: &mut [u8], bytes: &[u8]) -> Gathered
     ensures { result.long ≤ length line.new }
 {
     let end = until(bytes, b'\n');
-    let left = left_behind(bytes, end);
-    let long = g.long;
-    match gather(line, long, &bytes[0..end]) {
+    let g = Gathered {
+        left: left_behind(bytes, end),
+        going: end == bytes.len(),
+        ended: false,
+        ..g
+    };
+    match gather(line, g.long, &bytes[..end]) {
         Ok(n) => Gathered {
-            got: g.got,
-            left,
-            long: long + n,
-            fits: g.fits,
-            going: end == bytes.len(),
-            ended: false,
+            long: g.long + n,
+            ..g
         },
         Err(_) => Gathered {
-            got: g.got,
-            left,
             long: 0,
             fits: false,
-            going: end == bytes.len(),
-            ended: false,
+            ..g
         },
     }
 }
@@ -129,10 +119,9 @@ fn read_more(stdin: &mut impl Read, g: Gathered, chunk: &mut [u8]) -> Gathered
     Gathered {
         got,
         left: got,
-        long: g.long,
-        fits: g.fits,
         going: 0 < got,
         ended: got == 0,
+        ..g
     }
 }
 
@@ -141,19 +130,10 @@ fn take_more(stdin: &mut impl Read, g: Gathered, chunk: &mut [u8], line: &mut [u
     requires { g.long ≤ length line.old }
     ensures { result.long ≤ length line.new }
 {
-    let got = g.got;
-    let left = g.left;
-    if left == 0 {
+    if g.left == 0 || g.got < g.left || chunk.len() < g.got {
         return read_more(stdin, g, chunk);
     }
-    if got < left {
-        return read_more(stdin, g, chunk);
-    }
-    if chunk.len() < got {
-        return read_more(stdin, g, chunk);
-    }
-    let from = got - left;
-    take_part(g, line, &chunk[from..got])
+    take_part(g, line, &chunk[g.got - g.left..g.got])
 }
 
 // A proved loop has to end, and nothing says that the input does: the turns are a number that no run uses up.
@@ -168,10 +148,11 @@ fn take_line(stdin: &mut impl Read, input: Input, chunk: &mut [u8], line: &mut [
         going: true,
         ended: false,
     };
-    let mut turns = u64::MAX;
-    while turns > 0 && g.going {
+    for _ in 0..u64::MAX {
+        if !g.going {
+            break;
+        }
         g = take_more(stdin, g, chunk, line);
-        turns -= 1;
     }
     g
 }
@@ -192,14 +173,12 @@ pub fn next_line(stdin: &mut impl Read, input: Input, chunk: &mut [u8], line: &m
     ensures { result.long ≤ length line.new }
 {
     let g = take_line(stdin, input, chunk, line);
-    let input = Input {
-        got: g.got,
-        left: g.left,
-    };
-    let found = found_of(g);
     Next {
-        input,
-        found,
+        input: Input {
+            got: g.got,
+            left: g.left,
+        },
+        found: found_of(g),
         long: g.long,
     }
 }

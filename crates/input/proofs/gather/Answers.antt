@@ -2,23 +2,18 @@
 -- Assumes nothing.
 use native.Mathlib.Omega.{arith}
 use lib.ListN.{length}
-use lib.Seq.{take_all}
 use Rattle.output.proofs.Laws.{place_short, place_done}
 use Rattle.input.proofs.gather.Goals as goal
+use Rattle.input.proofs.gather.Goals.{then-line-long-via-then-line-long, then-line-long-via-else-line-long+then-line-long-2}
 
 pub returns-then-line-long : goal.returns-then-line-long
 returns-then-line-long c =
-    let a = c.args in
-    place_short a.bytes.now a.line.now a.long (omega arith)
-
-pub returns-then-line-long-2 : goal.returns-then-line-long-2
-returns-then-line-long-2 c =
-    let a = c.args in
-    place_short a.bytes.now a.line.now a.long (omega arith)
+    elim c.then-line-long.branch [
+      | then-line-long-via-then-line-long w ↦ place_short c.args.bytes.now c.args.line.now c.args.long (omega (arith, w.if-line-long.true))
+      | then-line-long-via-else-line-long+then-line-long-2 w ↦ place_short c.args.bytes.now c.args.line.now c.args.long (omega (arith, w.if-line-long-2.true))
+    ]
 
 pub returns : goal.returns
 returns c =
-    let a = c.args in
-    let all = take_all (length a.bytes.now) a.bytes.now (omega arith) in
-    place_done a.bytes.now a.line.now a.long (omega arith) c.put_part-n.result c.put_part-n.new.out
-    (rw all at c.put_part-n.ensures)
+    place_done c.args.bytes.now c.args.line.now c.args.long (omega arith) c.put_bytes.result c.put_bytes.new.out
+    c.put_bytes.ensures
