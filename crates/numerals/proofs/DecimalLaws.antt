@@ -2,7 +2,7 @@
 -- Assumes nothing.
 use Rattle.std.specs.Prelude.{Some, None}
 use mathlib.Core.Path.{◌≡◌, refl, sym, ◌∙◌}
-use mathlib.Core.Bool.{Bool, true, false}
+use mathlib.Core.Bool.{Bool, true, false, cond}
 use mathlib.Core.List.{List, [], ◌∷◌, ◌++◌}
 use Prim.Native.Nat.{ℕ, zero, suc, ◌+◌, ◌-◌, ◌*◌, ◌≤◌, ◌<◌}
 use Prim.Native.Char.{code}
@@ -12,7 +12,7 @@ use lib.Dec.{leb, ltb}
 use lib.ListN.{length, replicate, length-append}
 use Rattle.prelude.specs.Each.{each}
 use Rattle.digits.specs.Digits.{digits, is_digit, decimal, decimal_from}
-use Rattle.digits.proofs.Laws.{is_digit_lem, is_low, is_high, digit_most, digits_some, digits_digits, decimal_digits}
+use Rattle.digits.proofs.Laws.{is_digit_lem, digits_some, digits_digits, decimal_digits}
 use Rattle.numerals.specs.Decimals.{capped, most_number, number_of, digit_of}
 use Rattle.numerals.specs.Laws.{NumberDigits, CappedLow, CappedBelow}
 
@@ -58,38 +58,23 @@ capped_below most n limit h =
     capped_by most n (λ (k : ℕ). ltb k limit ≡ ltb n limit) (λ low. refl)
     (λ high. le-ltb most limit h ∙ sym (le-ltb n limit (omega (arith, h, high))))
 
--- ---- a digit
+-- ---- whether a byte is a digit, by its value
 
-pub digit_is : (b : ℕ) → 48 ≤ b → b ≤ 57 → b - 48 ≡ digit_of b
+pub digit_told : (b d : ℕ) → digit_of b ≡ Some d → (is_digit b ≡ true) × (d ≡ b - 48)
 unfolding digit_of
-digit_is b h g = rw (is_digit_lem b h g)
-
-pub digit_low : (b : ℕ) → b < 48 → 10 ≡ digit_of b
-unfolding digit_of
-digit_low b h = rw (is_low b h)
-
-pub digit_high : (b : ℕ) → 57 < b → 10 ≡ digit_of b
-unfolding digit_of
-digit_high b h = rw (is_high b (omega (arith, h)), lt-leb b 57 h)
-
--- whether a byte is a digit, by its value
-pub digit_told : (b : ℕ) → digit_of b ≤ 9 → (is_digit b ≡ true) × (digit_of b ≡ b - 48)
-unfolding digit_of
-digit_told b h = go (is_digit b) refl
+digit_told b d h = go (is_digit b) refl h
   where
-    go : (t : Bool) → is_digit b ≡ t → (is_digit b ≡ true) × (digit_of b ≡ b - 48)
-    go true e = (e, rw e)
-    go false e = let ten : digit_of b ≡ 10 = rw e in absurd (omega (arith, h, ten))
+    go : (t : Bool) → is_digit b ≡ t → cond t (Some (b - 48)) None ≡ Some d → (is_digit b ≡ true) × (d ≡ b - 48)
+    go true e h = (e, cc)
+    go false e h = let never : ◌≡◌ {A = ℕ} 0 1 = cc in absurd (omega arith)
 
-pub digit_not : (b : ℕ) → 9 < digit_of b → is_digit b ≡ false
+pub digit_not : (b : ℕ) → digit_of b ≡ None → is_digit b ≡ false
 unfolding digit_of
-digit_not b h = go (is_digit b) refl
+digit_not b h = go (is_digit b) refl h
   where
-    go : (t : Bool) → is_digit b ≡ t → is_digit b ≡ false
-    go true e =
-        let small : digit_of b ≡ b - 48 = rw e in
-        absurd (omega (arith, h, small, digit_most b e))
-    go false e = e
+    go : (t : Bool) → is_digit b ≡ t → cond t (Some (b - 48)) None ≡ None → is_digit b ≡ false
+    go true e h = let never : ◌≡◌ {A = ℕ} 0 1 = cc in absurd (omega arith)
+    go false e h = e
 
 -- ---- a word
 

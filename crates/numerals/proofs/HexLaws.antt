@@ -1,66 +1,30 @@
--- Laws of hexadecimal: a digit by the bounds that it stands between, a word by its tests, and bytes two digits at a
--- time.
+-- Laws of hexadecimal: what a digit is at most, a word of digits, and bytes two digits at a time.
 -- Assumes nothing.
+use Rattle.std.specs.Prelude.{Option, Some, None, IfSome}
+use Rattle.std.specs.Option.{unwrap_or}
+use Rattle.std.specs.List.{list_all}
 use mathlib.Core.Path.{◌≡◌, refl, sym, ap}
-use mathlib.Core.Bool.{true, false}
+use mathlib.Core.Bool.{Bool, ◌&&◌}
 use mathlib.Core.List.{List, [], ◌∷◌}
 use Prim.Native.Nat.{ℕ, zero, suc, ◌+◌, ◌-◌, ◌*◌, ◌/◌, ◌%◌, ◌≤◌, ◌<◌}
 use native.Mathlib.Numerals.{add-one}
 use native.Mathlib.Omega.{arith}
-use borrow.Author.Tests.{le-leb, lt-leb, eq-eqb, ne_eqb}
 use lib.ListN.{length, get_or, take, drop, set, length-drop}
 use lib.Seq.{take-suc, get_or-append-add, get_or-drop, length-take-le, take_all}
 use Rattle.prelude.specs.Each.{each}
 use Rattle.numbers.specs.Numbers.{over}
 use Rattle.output.proofs.Laws.{put_end}
-use Rattle.digits.proofs.Laws.{is_digit_lem, is_low, is_high}
-use Rattle.numerals.specs.Hex.{nibble_of, is_nibble, is_hex, byte_of, bytes_of}
+use Rattle.numerals.specs.Hex.{byte_of, bytes_of}
 
--- ---- a digit
+-- ---- a digit, and a word of digits
 
-module _ (b : ℕ) where
-  pub nibble_digit : 48 ≤ b → b ≤ 57 → b - 48 ≡ nibble_of b
-  unfolding nibble_of
-  nibble_digit h g = rw (is_digit_lem b h g)
+pub nibble_below : (o : Option ℕ) → IfSome o (λ d. d < 16) → unwrap_or o 0 < 16
+nibble_below None h = omega arith
+nibble_below (Some d) h = h
 
-  pub nibble_low : b < 48 → 16 ≡ nibble_of b
-  unfolding nibble_of
-  nibble_low h = rw (is_low b h, lt-leb 97 b (omega arith))
-
-  module _ (past : 57 < b) where
-    pub nibble_between : b < 97 → 16 ≡ nibble_of b
-    unfolding nibble_of
-    nibble_between h = rw (is_high b (omega arith), lt-leb b 57 past, lt-leb 97 b h)
-
-    pub nibble_letter : 97 ≤ b → b ≤ 102 → b - 97 + 10 ≡ nibble_of b
-    unfolding nibble_of
-    nibble_letter h g = rw (is_high b (omega arith), lt-leb b 57 past, le-leb 97 b h, le-leb b 102 g)
-
-    pub nibble_high : 97 ≤ b → 102 < b → 16 ≡ nibble_of b
-    unfolding nibble_of
-    nibble_high h g = rw (is_high b (omega arith), lt-leb b 57 past, le-leb 97 b h, lt-leb b 102 g)
-
-pub is_nibble_lem : (b : ℕ) → (nibble_of b ≡ 16 → ⊥) → is_nibble b ≡ true
-is_nibble_lem b h = rw (ne_eqb (nibble_of b) 16 h)
-
-pub no_nibble : (b : ℕ) → nibble_of b ≡ 16 → is_nibble b ≡ false
-no_nibble b h = rw (eq-eqb (nibble_of b) 16 h)
-
--- ---- a word
-
-module _ (w : List ℕ) where
-  pub hex_empty : length w < 1 → false ≡ is_hex w
-  unfolding is_hex
-  hex_empty h = rw (lt-leb 1 (length w) h)
-
-  module _ (some : 1 ≤ length w) where
-    pub hex_odd : length w % 2 ≡ 1 → false ≡ is_hex w
-    unfolding is_hex
-    hex_odd e = rw (le-leb 1 (length w) some, eq-eqb (length w % 2) 1 e)
-
-    pub hex_each : (length w % 2 ≡ 1 → ⊥) → each is_nibble w ≡ is_hex w
-    unfolding is_hex
-    hex_each e = rw (le-leb 1 (length w) some, ne_eqb (length w % 2) 1 e)
+pub each_all : (passes : ℕ → Bool) (w : List ℕ) → list_all passes w ≡ each passes w
+each_all passes [] = refl
+each_all passes (b ∷ bs) = ap (λ (t : Bool). passes b && t) (each_all passes bs)
 
 -- ---- bytes
 

@@ -26,6 +26,6 @@ number_of w =
     None unless each is_digit w then
     Some (capped most_number (decimal w))
 
--- a digit's value, 10 for any other byte
-unfoldable pub digit_of : ℕ → ℕ
-digit_of b = cond (is_digit b) (b - code "0") 10
+-- a digit's value
+unfoldable pub digit_of : ℕ → Option ℕ
+digit_of b = cond (is_digit b) (Some (b - code "0")) None

@@ -6,7 +6,8 @@
 --   is_bytes     whether a word is bytes, none among them
 --   bytes_of     the bytes that digits say
 -- Assumes nothing.
-use Rattle.std.specs.Prelude.{Bool, false, cond, ◌&&◌, ◌||◌, not, List, [], ◌∷◌, ℕ, ◌+◌, ◌-◌, ◌*◌, ◌%◌, leb, eqb, length}
+use Rattle.std.specs.Prelude.{Bool, false, cond, ◌&&◌, ◌||◌, not, List, [], ◌∷◌, ℕ, ◌+◌, ◌-◌, ◌*◌, ◌%◌, leb, eqb, length, Option, Some, None}
+use Rattle.std.specs.Option.{is_some, unwrap_or}
 use Prim.Native.Char.{code}
 use Rattle.prelude.specs.Choice.{◌unless◌then◌}
 use Rattle.prelude.specs.Each.{each}
@@ -17,12 +18,11 @@ use Rattle.matching.specs.Matching.{same}
 abbrev pub is_letter : ℕ → Bool
 is_letter b = leb (code "a") b && leb b (code "f")
 
--- 16 for a byte that is no digit
-unfoldable pub nibble_of : ℕ → ℕ
-nibble_of b = cond (is_digit b) (b - code "0") (cond (is_letter b) (b - code "a" + 10) 16)
+unfoldable pub nibble_of : ℕ → Option ℕ
+nibble_of b = cond (is_digit b) (Some (b - code "0")) (cond (is_letter b) (Some (b - code "a" + 10)) None)
 
 abbrev pub is_nibble : ℕ → Bool
-is_nibble b = not (eqb (nibble_of b) 16)
+is_nibble b = is_some (nibble_of b)
 
 unfoldable pub is_hex : List ℕ → Bool
 is_hex w =
@@ -38,7 +38,7 @@ is_bytes w = is_no_bytes w || is_hex w
 
 -- the high digit first; a byte that is no digit counts as 0
 unfoldable pub byte_of : ℕ → ℕ → ℕ
-byte_of high low = nibble_of high % 16 * 16 + nibble_of low % 16
+byte_of high low = unwrap_or (nibble_of high) 0 * 16 + unwrap_or (nibble_of low) 0
 
 -- two digits a byte: one that is left alone says none, so that `-` says none
 abbrev pub bytes_of : List ℕ → List ℕ

@@ -1,70 +1,57 @@
 // A word as bytes in hexadecimal.
-ghost use Rattle.std.specs.Prelude.{◌≡◌, ◌+◌, ◌≤◌, ◌/◌, length, drop};
+ghost use Rattle.std.specs.Prelude.{◌≡◌, ◌≤◌, ◌<◌, length, drop, IfSome};
+ghost use Rattle.std.specs.List.{list_all};
 ghost use Rattle.output.specs.Placed.{Put};
-ghost use Rattle.numerals.specs.Hex.{nibble_of, byte_of, is_hex, is_no_bytes, is_bytes, bytes_of};
+ghost use Rattle.numerals.specs.Hex.{nibble_of, is_nibble, byte_of, is_hex, is_bytes, bytes_of};
 
 use matching::same_bytes;
 
-// A hexadecimal digit's value, in lower case, or 16.
-fn nibble(b: u8) -> u8
-    ensures { (result ≡ nibble_of b) × (result ≤ 16) }
+// A hexadecimal digit's value, in lower case.
+#[tactic(auto, unfolding(crate::specs::Hex::nibble_of, digits::specs::Digits::is_digit))]
+fn nibble(b: u8) -> Option<u8>
+    ensures { (result ≡ nibble_of b) × IfSome result (λ d. d < 16) }
 {
     match b {
-        b'0'..=b'9' => b - b'0',
-        b'a'..=b'f' => b - b'a' + 10,
-        _ => 16,
+        b'0'..=b'9' => Some(b - b'0'),
+        b'a'..=b'f' => Some(b - b'a' + 10),
+        _ => None,
     }
 }
 
 // The byte of two digits, which the caller has seen to be digits.
+#[tactic(auto, using(crate::proofs::HexLaws::nibble_below), unfolding(crate::specs::Hex::byte_of))]
 fn byte_of(high: u8, low: u8) -> u8
     ensures { result ≡ byte_of high low }
 {
-    nibble(high) % 16 * 16 + nibble(low) % 16
+    nibble(high).unwrap_or(0) * 16 + nibble(low).unwrap_or(0)
+}
+
+fn is_nibble(b: u8) -> bool
+    ensures { result ≡ is_nibble b }
+{
+    nibble(b).is_some()
+}
+
+fn are_nibbles(word: &[u8]) -> bool
+    ensures { result ≡ list_all is_nibble word.now }
+{
+    word.iter().all(|b| is_nibble(*b))
 }
 
 // Whether a word is bytes in hexadecimal, at least one.
-#[tactic(auto, using(crate::proofs::HexLaws::hex_odd))]
+#[tactic(auto, using(crate::proofs::HexLaws::each_all), unfolding(crate::specs::Hex::is_hex))]
 pub fn is_hex(word: &[u8]) -> bool
     ensures { result ≡ is_hex word.now }
 {
-    if word.len() < 1 {
-        return false;
-    }
-    if word.len() % 2 == 1 {
-        return false;
-    }
-    let mut i: usize = 0;
-    while i < word.len() {
-        if nibble(word[i]) == 16 {
-            return false;
-        }
-        i += 1;
-    }
-    true
-}
-
-// Whether a word stands for no bytes.
-fn is_no_bytes(word: &[u8]) -> bool
-    ensures { result ≡ is_no_bytes word.now }
-{
-    same_bytes(word, b"-")
+    !word.is_empty() && word.len() % 2 == 0 && are_nibbles(word)
 }
 
 // Whether a word is bytes, none among them.
+#[tactic(auto, unfolding(crate::specs::Hex::is_no_bytes, crate::specs::Hex::is_bytes))]
 pub fn is_bytes(word: &[u8]) -> bool
     ensures { result ≡ is_bytes word.now }
 {
-    if is_no_bytes(word) {
-        return true;
-    }
-    is_hex(word)
-}
-
-fn half(n: usize) -> usize
-    ensures { (result ≡ n / 2) × (result + result ≤ n) }
-{
-    n / 2
+    same_bytes(word, b"-") || is_hex(word)
 }
 
 // Lays the bytes of the digits from `from` on at the line's start: no byte reaches digits that are still to be read.
@@ -74,12 +61,9 @@ pub fn unhex(line: &mut [u8], from: usize) -> usize
     ensures { Put (bytes_of (drop from line.old)) line.old result line.new
         × (result ≤ length line.new) }
 {
-    let n = half(line.len() - from);
-    let mut i: usize = 0;
-    while i < n {
-        let at = from + 2 * i;
-        line[i] = byte_of(line[at], line[at + 1]);
-        i += 1;
+    let n = (line.len() - from) / 2;
+    for i in 0..n {
+        line[i] = byte_of(line[from + 2 * i], line[from + 2 * i + 1]);
     }
     n
 }

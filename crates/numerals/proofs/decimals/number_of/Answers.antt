@@ -3,9 +3,10 @@
 -- Assumes nothing.
 use Rattle.std.specs.Prelude.{Some}
 use mathlib.Core.Path.{◌≡◌, sym, ap, ◌∙◌}
-use Prim.Native.Nat.{ℕ, ◌+◌, ◌-◌, ◌*◌}
+use Prim.Native.Nat.{ℕ, ◌+◌, ◌-◌, ◌*◌, ◌≤◌}
 use native.Mathlib.Omega.{arith}
-use lib.ListN.{get_or, drop}
+use borrow.Author.Rules.{rules}
+use lib.ListN.{get_or, drop, length}
 use Rattle.prelude.proofs.Each.{each_ends, each_fails, each_on}
 use Rattle.digits.specs.Digits.{is_digit, decimal, decimal_from}
 use Rattle.digits.proofs.Laws.{decimal_on, decimal_ends}
@@ -14,43 +15,46 @@ use Rattle.numerals.proofs.DecimalLaws.{number_empty, number_no, number_is, digi
 use Rattle.numerals.proofs.DecimalLaws.{capped_low, capped_most, capped_on}
 use Rattle.numerals.proofs.decimals.number_of.Goals as goal
 
-pub returns-then-word-lt1 : goal.returns-then-word-lt1
-returns-then-word-lt1 c = number_empty _ c.if-word-lt1.true
+pub returns-then-is_empty : goal.returns-then-is_empty
+returns-then-is_empty c = number_empty c.args.word.now (search rules)
 
-pub returns-then-d-gt9 : goal.returns-then-d-gt9
-returns-then-d-gt9 c =
+pub returns-in_err-digit : goal.returns-in_err-digit
+returns-in_err-digit c =
     let w = c.args.word.now in
-    number_no w c.if-word-lt1.false
-    (c.loop-i.invariant.2
-    ∙ each_fails ℕ is_digit w c.loop-i.i 0 (omega arith)
-    (digit_not (get_or w c.loop-i.i 0) (omega (arith, c.digit-d.ensures.0, c.if-d-gt9.true))))
+    let some : 1 ≤ length w = search rules in
+    c.from_residual.ensures ∙ number_no w some
+    (c.loop-b.invariant.digits_left
+    ∙ each_fails ℕ is_digit w c.loop-b.b-index 0 c.loop-b-test.true
+    (digit_not (get_or w c.loop-b.b-index 0) (sym c.digit.ensures ∙ c.in_err-digit.was)))
 
-pub loop-i-preserved : goal.loop-i-preserved
-loop-i-preserved c =
+pub loop-b-preserved : goal.loop-b-preserved
+loop-b-preserved c =
     let w = c.args.word.now in
-    let i = c.loop-i.i in
-    let n = c.loop-i.n in
+    let i = c.loop-b.b-index in
+    let n = c.loop-b.n in
     let b = get_or w i 0 in
-    let told = digit_told b (omega (arith, c.digit-d.ensures.0)) in
+    let inside = c.loop-b-test.true in
+    let told = digit_told b c.in_ok-digit.field-0 (sym c.digit.ensures ∙ c.in_ok-digit.was) in
     let next : c.with_digit-n.result ≡ capped most_number (n * 10 + (b - 48)) =
-    c.with_digit-n.ensures
-    ∙ ap (λ (d : ℕ). capped most_number (n * 10 + d)) (c.digit-d.ensures.0 ∙ told.1) in (
-      omega arith,
-      omega (arith, next, capped_most most_number (n * 10 + (b - 48))),
-      c.loop-i.invariant.2 ∙ each_on ℕ is_digit w i 0 (omega arith) told.0,
-      c.loop-i.invariant.3
-          ∙ ap (capped most_number) (decimal_on w i n (omega arith))
+    c.with_digit-n.ensures ∙ ap (λ (d : ℕ). capped most_number (n * 10 + d)) told.1 in
+    record {
+      fits = omega (arith, next, capped_most most_number (n * 10 + (b - 48)));
+      digits_left = c.loop-b.invariant.digits_left ∙ each_on ℕ is_digit w i 0 inside told.0;
+      worth =
+          c.loop-b.invariant.worth
+          ∙ ap (capped most_number) (decimal_on w i n inside)
           ∙ capped_on most_number (n * 10 + (b - 48)) (drop (i + 1) w)
-          ∙ ap (λ (k : ℕ). capped most_number (decimal_from k (drop (i + 1) w))) (sym next),
-    )
+          ∙ ap (λ (k : ℕ). capped most_number (decimal_from k (drop (i + 1) w))) (sym next);
+    }
 
 pub returns : goal.returns
 returns c =
     let w = c.args.word.now in
-    let i = c.loop-i.i in
-    let n = c.loop-i.n in
+    let i = c.loop-b.b-index in
+    let n = c.loop-b.n in
+    let past = c.loop-b-test.false in
+    let some : 1 ≤ length w = search rules in
     let all : capped most_number (decimal w) ≡ n =
-    c.loop-i.invariant.3 ∙ ap (capped most_number) (decimal_ends w i n (omega arith))
-    ∙ capped_low most_number n c.loop-i.invariant.1 in
-    ap Some (sym all)
-    ∙ number_is w c.if-word-lt1.false (c.loop-i.invariant.2 ∙ each_ends ℕ is_digit w i 0 (omega arith))
+    c.loop-b.invariant.worth ∙ ap (capped most_number) (decimal_ends w i n past)
+    ∙ capped_low most_number n c.loop-b.invariant.fits in
+    ap Some (sym all) ∙ number_is w some (c.loop-b.invariant.digits_left ∙ each_ends ℕ is_digit w i 0 past)

@@ -2,17 +2,10 @@
 -- to be read stands behind them.
 -- Assumes nothing.
 use mathlib.Core.Path.{◌≡◌}
-use Prim.Native.Nat.{◌-◌, ◌/◌, ◌≤◌}
-use lib.ListN.{length, take, drop}
+use lib.ListN.{take, drop}
 use Rattle.numbers.specs.Numbers.{over}
 use Rattle.numerals.specs.Hex.{bytes_of}
 use Rattle.numerals.proofs.hex.unhex.Given as goal
 
 abbrev pub invariant-loop-i : goal.invariant-loop-i
-invariant-loop-i l =
-    (l.i ≤ l.n) × (length l.line ≡ length l.initial.line) × (l.n ≡ (length l.initial.line - l.from) / 2)
-    × (l.from ≤ length l.initial.line)
-    × (l.line ≡ over (take l.i (bytes_of (drop l.from l.initial.line))) l.initial.line)
-
-abbrev pub decreases-loop-i : goal.decreases-loop-i
-decreases-loop-i l = l.n - l.i
+invariant-loop-i l = l.line ≡ over (take l.i (bytes_of (drop l.from l.initial.line))) l.initial.line
