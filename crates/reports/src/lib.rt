@@ -4,48 +4,39 @@
 
 ghost use Rattle.std.specs.Prelude.{◌≡◌, ◌≤◌, ◌<◌, length};
 ghost use Rattle.house.specs.Deliver.{past_counts};
-ghost use Rattle.house.specs.Report.{keyed_row, row_at, rows_of, rows_from, reported, filled, no_rows, listing};
+ghost use Rattle.prelude.specs.Checks.{checked};
+ghost use Rattle.rows.specs.Rows.{held_by};
+ghost use Rattle.house.specs.House.{keys_of};
+ghost use Rattle.house.specs.Report.{keyed_row, row_at, rows_of, rows_from, report_checks, reported, filled, no_rows};
+ghost use Rattle.house.specs.Report.{listing};
 
 use answers::Answer;
 use house::{House, Listing, Reported, Row};
 use rows::{held_by, slot_rank};
-use soundness::is_sound;
+use soundness::open_at;
+
+// How many rows a report of a slot has, where `long` is the room for them.
+fn count_rows(house: &House, slot: u32, long: usize) -> Result<usize, Answer>
+    ensures { result ≡ checked Err (report_checks house.now slot long) (Ok (held_by slot (keys_of house.now))) }
+{
+    let (i, _) = open_at(house, slot)?;
+    let n = held_by(&house.keys, house.used, i);
+    if long < n {
+        return Err(Answer::OutputTooShort);
+    }
+    Ok(n)
+}
 
 // What a report of a slot is answered, and how many rows it has, where `long` is the room for them.
 pub fn judge_report(house: House, slot: u32, long: usize) -> Reported
     ensures { result ≡ reported house slot long }
 {
-    if !is_sound(house) {
-        return Reported {
-            answer: Answer::NotSound,
-            rows: 0,
-        };
-    }
-    let i = slot as usize;
-    if House::SLOTS <= i {
-        return Reported {
-            answer: Answer::NoSuchSlot,
-            rows: 0,
-        };
-    }
-    let h = house;
-    let s = h.slots[i];
-    if !s.taken {
-        return Reported {
-            answer: Answer::SlotClosed,
-            rows: 0,
-        };
-    }
-    let n = held_by(&h.keys, h.used, i);
-    if long < n {
-        return Reported {
-            answer: Answer::OutputTooShort,
-            rows: 0,
-        };
-    }
-    Reported {
-        answer: Answer::Done,
-        rows: n,
+    match count_rows(&house, slot, long) {
+        Ok(rows) => Reported {
+            answer: Answer::Done,
+            rows,
+        },
+        Err(answer) => Reported { answer, rows: 0 },
     }
 }
 
@@ -58,8 +49,7 @@ fn first_row(house: House, slot: u32, rows: usize) -> usize
     if rows == 0 {
         return 0;
     }
-    let h = house;
-    slot_rank(&h.keys, h.used, slot as usize)
+    slot_rank(&house.keys, house.used, slot as usize)
 }
 
 // A row of a report. It is given its two numbers and not the house they stand in: a house is 21 KB, and is not copied
@@ -96,13 +86,10 @@ pub fn list_rows(house: House, slot: u32, long: usize) -> Listing
     let reported = judge_report(house, slot, long);
     let n = reported.rows;
     let from = first_row(house, slot, n);
-    let h = house;
     let mut rows = no_rows();
-    let mut i: usize = 0;
-    while i < n {
+    for i in 0..n {
         let at = from + i;
-        rows[i] = keyed_row(h.keys[at], h.counts[at]);
-        i += 1;
+        rows[i] = keyed_row(house.keys[at], house.counts[at]);
     }
     Listing { reported, rows }
 }
@@ -113,10 +100,8 @@ pub fn report(out: &mut [Row], house: House, slot: u32) -> Reported
         × (out.new ≡ filled (row_at house slot) result.rows out.old) }
 {
     let list = list_rows(house, slot, out.len());
-    let mut i: usize = 0;
-    while i < list.reported.rows {
-        out[i] = list.rows[i];
-        i = i + 1;
-    }
+    let n = list.reported.rows;
+    let rows: &[Row] = &list.rows;
+    out[..n].copy_from_slice(&rows[..n]);
     list.reported
 }

@@ -1,45 +1,42 @@
--- `reports::judge_report` meets its contract: each return is one case of its definition.
+-- `reports::judge_report` meets its contract: a refusal is told with no row.
 -- Assumes nothing.
-use mathlib.Core.Path.{◌≡◌, sym, ◌∙◌}
-use native.Mathlib.Omega.{arith}
-use lib.ListN.{length}
-use borrow.Author.Tests.{not-true, not-false}
-use Rattle.house.proofs.Calling.{told_within}
-use Rattle.house.proofs.Reporting.{report_unsound, report_no_slot, report_closed, report_short, report_done, told_rises}
-use borrow.Author.Rules.{rules}
+use mathlib.Core.Path.{◌≡◌, refl, ap, sym, ◌∙◌}
+use mathlib.Core.Bool.{Bool, true, false}
+use mathlib.Core.List.{List, [], ◌∷◌}
+use Prim.Native.Nat.{ℕ}
+use Rattle.std.specs.Prelude.{Result, Ok, Err}
+use Rattle.prelude.specs.Choice.{◌unless◌then◌}
+use Rattle.prelude.specs.Checks.{Check, checked}
+use Rattle.answers.specs.declared.Answer.{Answer}
+use Rattle.answers.specs.declared.Answer.TheVariants.{Done}
+use Rattle.house.specs.declared.Reported.{Reported}
+use Rattle.house.specs.Report.{unreported, report_checks, reported}
 use Rattle.reports.proofs.judge_report.Goals as goal
 
-pub returns-then-not-is_sound : goal.returns-then-not-is_sound
-returns-then-not-is_sound c = sym (report_unsound _ _ _ (sym c.is_sound.ensures ∙ c.if-not-is_sound.true))
+told : Result ℕ Answer → Reported
+told (Ok n) = record { answer = Done; rows = n }
+told (Err a) = unreported a
 
-pub returns-then-i-ge-SLOTS : goal.returns-then-i-ge-SLOTS
-returns-then-i-ge-SLOTS c =
-    let fine = sym c.is_sound.ensures ∙ c.if-not-is_sound.false in
-    sym (report_no_slot _ _ _ fine c.if-i-ge-SLOTS.true)
+told_choice : (a : Answer) (test : Bool) (r : Result ℕ Answer) (s : Reported) → told r ≡ s
+    → told (Err a unless test then r) ≡ (unreported a unless test then s)
+unfolding told
+told_choice a true r s e = e
+told_choice a false r s e = refl
 
-pub returns-then-not-s : goal.returns-then-not-s
-returns-then-not-s c =
-    let fine = sym c.is_sound.ensures ∙ c.if-not-is_sound.false in
-    sym (report_closed _ _ _ fine c.if-i-ge-SLOTS.false (not-true _ c.if-not-s.true))
+told_checked : (cs : List (Check Answer)) (n : ℕ)
+    → told (checked Err cs (Ok n)) ≡ checked unreported cs (record { answer = Done; rows = n })
+unfolding told
+told_checked [] n = refl
+told_checked (c ∷ cs) n = told_choice c.answer c.holds _ _ (told_checked cs n)
 
-pub held_by-n-requires : goal.held_by-n-requires
-held_by-n-requires c =
-    let fine = sym c.is_sound.ensures ∙ c.if-not-is_sound.false in
-    let h = c.args.house in
-    let long : length h.keys ≡ 1024 = search rules in (
-      c.if-i-ge-SLOTS.false,
-      omega (arith, long, told_within h fine),
-      told_rises h fine,
-    )
+pub returns-in-Ok : goal.returns-in-Ok
+unfolding reported told
+returns-in-Ok c =
+    let a = c.args in
+    ap told (sym c.in-Ok.is ∙ c.count_rows.ensures) ∙ told_checked (report_checks a.house a.slot a.long) _
 
-pub returns-then-long-n : goal.returns-then-long-n
-returns-then-long-n c =
-    let fine = sym c.is_sound.ensures ∙ c.if-not-is_sound.false in
-    sym (report_short _ _ _ fine c.if-i-ge-SLOTS.false (not-false _ c.if-not-s.false) _
-    c.held_by-n.ensures c.if-long-n.true)
-
-pub returns : goal.returns
-returns c =
-    let fine = sym c.is_sound.ensures ∙ c.if-not-is_sound.false in
-    sym (report_done _ _ _ fine c.if-i-ge-SLOTS.false (not-false _ c.if-not-s.false) _
-    c.held_by-n.ensures c.if-long-n.false)
+pub returns-in-Err : goal.returns-in-Err
+unfolding reported told
+returns-in-Err c =
+    let a = c.args in
+    ap told (sym c.in-Err.is ∙ c.count_rows.ensures) ∙ told_checked (report_checks a.house a.slot a.long) _

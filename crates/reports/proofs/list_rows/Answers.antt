@@ -41,7 +41,7 @@ pub first_row-from-requires : goal.first_row-from-requires
 first_row-from-requires c = held c.args.house c.args.slot c.args.long _ c.judge_report-reported.ensures
 
 pub loop-i-init : goal.loop-i-init
-loop-i-init c = (omega arith, c.no_rows-rows.ensures)
+loop-i-init c = c.no_rows-rows.ensures
 
 pub overflow_add-at : goal.overflow_add-at
 overflow_add-at c = record {
@@ -52,8 +52,8 @@ overflow_add-at c = record {
   );
 }
 
-pub offset_bounds-h-at : goal.offset_bounds-h-at
-offset_bounds-h-at c = record {
+pub offset_bounds-house-at : goal.offset_bounds-house-at
+offset_bounds-house-at c = record {
   fits = omega (
     arith,
     within c.args.house c.args.slot c.args.long _ c.judge_report-reported.ensures _ c.loop-i.i
@@ -61,13 +61,13 @@ offset_bounds-h-at c = record {
   );
 }
 
-pub bounds-h-at : goal.bounds-h-at
-bounds-h-at c =
+pub bounds-house-at : goal.bounds-house-at
+bounds-house-at c =
     within c.args.house c.args.slot c.args.long _ c.judge_report-reported.ensures _ c.loop-i.i c.first_row-from.ensures
     c.loop-i-test.true (search rules)
 
-pub offset_bounds-h-at-in-loop-i : goal.offset_bounds-h-at-in-loop-i
-offset_bounds-h-at-in-loop-i c = record {
+pub offset_bounds-house-at-in-loop-i : goal.offset_bounds-house-at-in-loop-i
+offset_bounds-house-at-in-loop-i c = record {
   fits = omega (
     arith,
     within c.args.house c.args.slot c.args.long _ c.judge_report-reported.ensures _ c.loop-i.i
@@ -75,8 +75,8 @@ offset_bounds-h-at-in-loop-i c = record {
   );
 }
 
-pub bounds-h-at-in-loop-i : goal.bounds-h-at-in-loop-i
-bounds-h-at-in-loop-i c =
+pub bounds-house-at-in-loop-i : goal.bounds-house-at-in-loop-i
+bounds-house-at-in-loop-i c =
     within c.args.house c.args.slot c.args.long _ c.judge_report-reported.ensures _ c.loop-i.i c.first_row-from.ensures
     c.loop-i-test.true (search rules)
 
@@ -107,11 +107,11 @@ loop-i-preserved c =
     let row =
     told c.args.house c.args.slot c.args.long _ c.judge_report-reported.ensures _ c.loop-i.i c.first_row-from.ensures
     c.loop-i-test.true in
-    (omega (arith, c.loop-i-test.true), rw (c.loop-i.invariant.1, c.keyed_row.ensures, row, add-one))
+    rw (c.loop-i.invariant, c.keyed_row.ensures, row, add-one)
 
 pub returns : goal.returns
 unfolding listing
 returns c =
     let all : c.loop-i.i ≡ c.judge_report-reported.result.rows =
-    omega (arith, c.loop-i.invariant.0, c.loop-i-test.false) in
-    rw (c.loop-i.invariant.1, all, c.judge_report-reported.ensures)
+    omega arith in
+    rw (c.loop-i.invariant, all, c.judge_report-reported.ensures)

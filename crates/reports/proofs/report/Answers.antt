@@ -1,15 +1,16 @@
--- `reports::report` meets its contract: after i turns the first i rows are written, as they are listed.
+-- `reports::report` meets its contract: the rows listed are written over the first of the slice.
 -- Assumes nothing.
-use mathlib.Core.Path.{◌≡◌, ap, ◌∙◌}
-use Prim.Native.Nat.{ℕ, ◌≤◌, ◌<◌}
+use mathlib.Core.Path.{◌≡◌, ap, sym, ◌∙◌}
+use mathlib.Core.List.{List, ◌++◌}
+use Prim.Native.Nat.{ℕ, ◌≤◌}
 use native.Mathlib.Omega.{arith}
-use native.Mathlib.Numerals.{add-one}
-use lib.ListN.{length, get_or}
+use lib.ListN.{length, take, drop}
+use lib.Seq.{length-take-le, take_at}
 use Rattle.house.specs.declared.House.{House}
 use Rattle.house.specs.declared.Row.{Row}
 use Rattle.house.specs.declared.Listing.{Listing}
-use Rattle.house.specs.Report.{row_at, reported, listing}
-use Rattle.house.proofs.Reporting.{few, listing_reported, listing_few, listing_at}
+use Rattle.house.specs.Report.{row_at, reported, listed, filled, no_rows, listing}
+use Rattle.house.proofs.Reporting.{few, listing_reported, listing_few, filled_listed, length_filled, length_listed}
 use Rattle.reports.proofs.report.Goals as goal
 
 -- what is known of the listing
@@ -23,56 +24,50 @@ module _ (h : House) (slot long : ℕ) (list : Listing) (is : list ≡ listing h
   bounded : list.reported.rows ≤ 1024
   bounded = rw is (listing_few h slot long)
 
-  told : (i : ℕ) (d : Row) → i < list.reported.rows → get_or list.rows i d ≡ row_at h slot i
-  told i d = rw is (listing_at h slot long i d)
+  laid : list.rows ≡ filled (row_at h slot) list.reported.rows no_rows
+  unfolding listing
+  laid = rw is
 
-pub offset_bounds-list-i : goal.offset_bounds-list-i
-offset_bounds-list-i c = record {
-  fits = omega (
-    arith,
-    bounded c.args.house c.args.slot (length c.args.out.now) _ c.list_rows-list.ensures,
-    c.loop-i-test.true,
-  );
-}
+  long_rows : list.reported.rows ≤ length list.rows
+  long_rows = rw (laid, length_filled) bounded
 
-pub bounds-list-i : goal.bounds-list-i
-bounds-list-i c =
-    omega (
-      arith,
-      bounded c.args.house c.args.slot (length c.args.out.now) _ c.list_rows-list.ensures,
-      c.loop-i-test.true,
-    )
+  -- the first rows of a slice that is long enough
+  written : (out : List Row) → list.reported.rows ≤ length out
+      → take list.reported.rows list.rows ++ drop list.reported.rows out
+      ≡ filled (row_at h slot) list.reported.rows out
+  written out fits =
+      let n = list.reported.rows in
+      let row = row_at h slot in
+      let first : take n list.rows ≡ listed row n =
+      rw laid (rw (filled_listed row n no_rows (omega (arith, bounded)))
+      (take_at (listed row n) (drop n no_rows) n (length_listed row n))) in
+      rw first (sym (filled_listed row n out fits))
 
-pub offset_bounds-out-i : goal.offset_bounds-out-i
-offset_bounds-out-i c = record {
-  fits = omega (
-    arith,
-    bounded c.args.house c.args.slot (length c.args.out.now) _ c.list_rows-list.ensures,
-    c.loop-i-test.true,
-  );
-}
+pub slice_bounds-copy_from_slice-end : goal.slice_bounds-copy_from_slice-end
+slice_bounds-copy_from_slice-end c =
+    small c.args.house c.args.slot (length c.args.out.now) _ c.list_rows-list.ensures
 
-pub bounds-out-i : goal.bounds-out-i
-bounds-out-i c =
-    omega (
-      arith,
-      small c.args.house c.args.slot (length c.args.out.now) _ c.list_rows-list.ensures,
-      c.loop-i-test.true,
-      c.loop-i.auto.out,
-    )
+pub slice_bounds-copy_from_slice-end-2 : goal.slice_bounds-copy_from_slice-end-2
+slice_bounds-copy_from_slice-end-2 c =
+    sym (length-take-le _ c.args.out.now (small c.args.house c.args.slot (length c.args.out.now) _ c.list_rows-list.ensures))
 
-pub loop-i-preserved : goal.loop-i-preserved
-loop-i-preserved c =
-    let none : Row = record { head = 0; site = 0; bin = 0; count = 0 } in
-    let row =
-    told c.args.house c.args.slot (length c.args.out.now) _ c.list_rows-list.ensures c.loop-i.i none
-    c.loop-i-test.true in
-    (omega (arith, c.loop-i-test.true), rw (c.loop-i.invariant.1, row, add-one))
+pub slice_bounds-copy_from_slice-end-3 : goal.slice_bounds-copy_from_slice-end-3
+slice_bounds-copy_from_slice-end-3 c =
+    sym
+    (length-take-le _ c.list_rows-list.result.rows
+    (long_rows c.args.house c.args.slot (length c.args.out.now) _ c.list_rows-list.ensures))
+
+pub copy_from_slice-requires : goal.copy_from_slice-requires
+copy_from_slice-requires c =
+    length-take-le _ c.args.out.now (small c.args.house c.args.slot (length c.args.out.now) _ c.list_rows-list.ensures)
+    ∙ sym
+    (length-take-le _ c.list_rows-list.result.rows
+    (long_rows c.args.house c.args.slot (length c.args.out.now) _ c.list_rows-list.ensures))
 
 pub returns : goal.returns
-returns c =
-    let all : c.loop-i.i ≡ c.list_rows-list.result.reported.rows =
-    omega (arith, c.loop-i.invariant.0, c.loop-i-test.false) in (
-      judged c.args.house c.args.slot (length c.args.out.now) _ c.list_rows-list.ensures,
-      rw (c.loop-i.invariant.1, all),
-    )
+returns c = (
+  judged c.args.house c.args.slot (length c.args.out.now) _ c.list_rows-list.ensures,
+  rw c.copy_from_slice.ensures.after
+      (written c.args.house c.args.slot (length c.args.out.now) _ c.list_rows-list.ensures c.args.out.now
+      (small c.args.house c.args.slot (length c.args.out.now) _ c.list_rows-list.ensures)),
+)
