@@ -5,46 +5,22 @@
 // error: the lent buffers keep their lengths, and what stands in them is left open.
 #![tactic(auto)]
 
-mod saying;
+mod field;
 
-ghost use Rattle.std.specs.Prelude.{◌≡◌, false, ◌+◌, ◌≤◌, length, IfOk, OnErr};
+ghost use Rattle.std.specs.Prelude.{◌≡◌, ◌+◌, ◌≤◌, length, IfSome, IfOk, OnErr};
 
-use input::{Found, Input, next_line, until};
+pub use field::Field;
+use input::{Found, each_line, until};
 use numerals::{is_hex, number_of, unhex};
-use output::put_part;
-pub use saying::{MISSING, say_values};
 use script::word_end;
 use std::io;
 use std::io::Read;
-use transcript::say;
 
-// Where the input stands behind the last line; the letter of its verb, 0 where it was no call; how many bytes it had;
-// and whether the input has ended.
+// The letter of a call's verb, and how many bytes it has.
 #[derive(Clone, Copy)]
-pub struct Call {
-    pub input: Input,
-    pub verb: u8,
-    pub bytes: usize,
-    pub ended: bool,
-}
-
-#[derive(Clone, Copy)]
-struct Asked {
+struct Call {
     verb: u8,
     bytes: usize,
-}
-
-// No line has come.
-pub fn begin() -> Call
-    ensures { (result.verb ≡ 0) × (result.bytes ≡ 0) × (result.ended ≡ false) }
-{
-    let input = input::begin();
-    Call {
-        input,
-        verb: 0,
-        bytes: 0,
-        ended: false,
-    }
 }
 
 // Lays a word's bytes so many times behind the first `n` of the output, while there is room.
@@ -52,16 +28,13 @@ fn lay(word: &[u8], times: u64, out: &mut [u8], n: usize) -> usize
     requires { n ≤ length out.old }
     ensures { result ≤ length out.new }
 {
-    let long = word.len();
     let mut end = n;
-    let mut left = times;
-    while left > 0 {
-        if out.len() - end < long {
-            return end;
+    for _ in 0..times {
+        if out.len() - end < word.len() {
+            break;
         }
-        put_part(&mut out[end..], word, 0, long);
-        end += long;
-        left -= 1;
+        out[end..end + word.len()].copy_from_slice(word);
+        end += word.len();
     }
     end
 }
@@ -70,12 +43,9 @@ fn lay(word: &[u8], times: u64, out: &mut [u8], n: usize) -> usize
 fn times_of(word: &[u8], star: usize) -> u64
     requires { star ≤ length word.now }
 {
-    if star == word.len() {
-        return 1;
-    }
-    match number_of(&word[star + 1..]) {
-        Some(n) => n,
-        None => 0,
+    match word.get(star + 1..) {
+        Some(digits) => number_of(digits).unwrap_or(0),
+        None => 1,
     }
 }
 
@@ -85,15 +55,12 @@ fn lay_word(rt: &impl Print, word: &mut [u8], out: &mut [u8], n: usize) -> io::R
 {
     let star = until(word, b'*');
     let times = times_of(word, star);
-    if !is_hex(&word[0..star]) {
-        say(rt, b"?")?;
+    if !is_hex(&word[..star]) {
+        print!(rt; "?")?;
         return Ok(n);
     }
-    let long = unhex(&mut word[0..star], 0);
-    if word.len() < long {
-        return Ok(n);
-    }
-    Ok(lay(&word[0..long], times, out, n))
+    let long = unhex(&mut word[..star], 0);
+    Ok(lay(&word[..long], times, out, n))
 }
 
 // Lays the bytes of all words from `from` on, and answers how many they are.
@@ -102,7 +69,7 @@ fn lay_words(rt: &impl Print, line: &mut [u8], from: usize, out: &mut [u8]) -> i
     ensures { IfOk result (λ r. r ≤ length out.new) }
 {
     let mut at = from;
-    let mut n: usize = 0;
+    let mut n = 0;
     while at < line.len() {
         let end = word_end(line, at);
         n = lay_word(rt, &mut line[at..end], out, n)?;
@@ -119,86 +86,70 @@ fn call_at(rt: &impl Print, line: &[u8]) -> io::Result<usize>
     if line.len() - colon < 2 {
         return Ok(0);
     }
-    say(rt, &line[0..colon + 1])?;
+    rt.write_all(&line[..colon + 1])?;
     Ok(colon + 2)
 }
 
-fn no_call() -> Asked
-    ensures { result.bytes ≡ 0 }
-{
-    Asked { verb: 0, bytes: 0 }
-}
-
 // A line that asks for something: its verb, and the bytes behind it.
-fn take_call(rt: &impl Print, line: &mut [u8], out: &mut [u8]) -> io::Result<Asked>
-    ensures { IfOk result (λ r. r.bytes ≤ length out.new) }
+fn take_call(rt: &impl Print, line: &mut [u8], out: &mut [u8]) -> io::Result<Option<Call>>
+    ensures { IfOk result (λ r. IfSome r (λ c. c.bytes ≤ length out.new)) }
 {
     let at = call_at(rt, line)?;
-    if at == line.len() {
-        return Ok(no_call());
-    }
-    let verb = line[at];
+    let Some(verb) = line.get(at).copied() else {
+        return Ok(None);
+    };
     let end = word_end(line, at);
     let bytes = lay_words(rt, line, end + 1, out)?;
-    Ok(Asked { verb, bytes })
+    Ok(Some(Call { verb, bytes }))
 }
 
-fn take_line(rt: &impl Print, line: &mut [u8], out: &mut [u8]) -> io::Result<Asked>
-    ensures { IfOk result (λ r. r.bytes ≤ length out.new) }
+// The call of a line, its label said and its bytes laid at the start of the output; none of a line to copy.
+fn take_line(rt: &impl Print, line: &mut [u8], out: &mut [u8]) -> io::Result<Option<Call>>
+    ensures found { IfOk result (λ r. IfSome r (λ c. c.bytes ≤ length out.new)) }
+    ensures failed { OnErr result (length out.new ≡ length out.old) }
 {
-    if line.len() == 0 {
-        say(rt, b"\n")?;
-        return Ok(no_call());
-    }
-    if line[0] == b'#' {
-        say(rt, line)?;
-        say(rt, b"\n")?;
-        return Ok(no_call());
+    if line.is_empty() || line[0] == b'#' {
+        rt.write_all(line)?;
+        println!(rt)?;
+        return Ok(None);
     }
     take_call(rt, line, out)
 }
 
-// The next line, its label said and its bytes laid at the start of the output.
-pub fn next_call(
+// A line, and its call played, if it is one. One that is too long is none.
+fn play_line<F: FnMut(u8, &[u8]) -> io::Result<()>>(
+    rt: &impl Print,
+    found: Found,
+    line: &mut [u8],
+    bytes: &mut [u8],
+    play: &mut F,
+) -> io::Result<()>
+    requires { (state : F) (verb : _) (part : _) → F.pre state verb part }
+{
+    if !matches!(found, Found::Line) {
+        return println!(rt; "?");
+    }
+    match take_line(rt, line, bytes)? {
+        Some(call) => play(call.verb, &bytes[..call.bytes]),
+        None => Ok(()),
+    }
+}
+
+// Gives the verb and the bytes of each call to `play`, up to the script's end or an error.
+pub fn play_all<F: FnMut(u8, &[u8]) -> io::Result<()>>(
     rt: &impl Print,
     stdin: &mut impl Read,
-    last: Call,
-    chunk: &mut [u8],
-    line: &mut [u8],
-    out: &mut [u8],
-) -> io::Result<Call>
-    ensures found { IfOk result (λ r. r.bytes ≤ length out.new) }
-    ensures failed { OnErr result (length out.new ≡ length out.old) }
+    mut play: F,
+) -> io::Result<()>
+    requires { (state : F) (verb : _) (part : _) → F.pre state verb part }
 {
-    let before = last.input;
-    let next = next_line(stdin, before, chunk, line);
-    let found = next.found;
-    let input = next.input;
-    let long = next.long;
-    match found {
-        Found::Line => {
-            let asked = take_line(rt, &mut line[0..long], out)?;
-            Ok(Call {
-                input,
-                verb: asked.verb,
-                bytes: asked.bytes,
-                ended: false,
-            })
-        }
-        Found::TooLong => {
-            say(rt, b"?\n")?;
-            Ok(Call {
-                input,
-                verb: 0,
-                bytes: 0,
-                ended: false,
-            })
-        }
-        Found::End => Ok(Call {
-            input,
-            verb: 0,
-            bytes: 0,
-            ended: true,
-        }),
-    }
+    let mut line = [0u8; 4096];
+    let mut bytes = [0u8; 65536];
+    each_line(
+        stdin,
+        &mut line,
+        |found, line|
+            requires { (state : F) (verb : _) (part : _) → F.pre state verb part }
+        { play_line(rt, found, line, &mut bytes, &mut play) },
+    )
 }

@@ -20,21 +20,18 @@ mod calling;
 mod setting;
 
 use calling::{say_calls, say_delivered, say_fed};
-use case_lines::next_call;
+use case_lines::play_all;
 use house::House;
 use setting::{with_held, with_keys, with_rows, with_slot};
 use std::io;
-use std::io::Read;
-use transcript::say;
 
 // What is asked of a house.
 fn ask(rt: &impl Print, house: House, verb: u8, bytes: &[u8]) -> io::Result<()> {
     match verb {
-        0 => Ok(()),
         b'c' => say_calls(rt, house),
         b'd' => say_delivered(rt, house, bytes),
         b'p' => say_fed(rt, house),
-        _ => say(rt, b"?\n"),
+        _ => println!(rt; "?"),
     }
 }
 
@@ -53,29 +50,10 @@ fn play(rt: &impl Print, house: House, verb: u8, bytes: &[u8]) -> io::Result<Hou
     }
 }
 
-// A proved loop has to end, and nothing says that the input does: the turns are a number that no run uses up.
-fn play_all(
-    rt: &impl Print,
-    stdin: &mut impl Read,
-    chunk: &mut [u8],
-    line: &mut [u8],
-    bytes: &mut [u8],
-) -> io::Result<()> {
-    let mut house = House::fresh();
-    let mut call = case_lines::begin();
-    let mut turns = u64::MAX;
-    while turns > 0 && !call.ended {
-        call = next_call(rt, stdin, call, chunk, line, bytes)?;
-        let n = call.bytes;
-        house = play(rt, house, call.verb, &bytes[0..n])?;
-        turns -= 1;
-    }
-    Ok(())
-}
-
 fn main(rt: HostRuntime) -> io::Result<()> {
-    let mut chunk = [0u8; 65536];
-    let mut line = [0u8; 4096];
-    let mut bytes = [0u8; 4096];
-    play_all(&rt, &mut rt.stdin(), &mut chunk, &mut line, &mut bytes)
+    let mut house = House::fresh();
+    play_all(&rt, &mut rt.stdin(), |verb, bytes| {
+        house = play(&rt, house, verb, bytes)?;
+        Ok(())
+    })
 }

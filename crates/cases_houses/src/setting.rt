@@ -4,61 +4,49 @@ use house::{House, Slot};
 
 // No slot is past the last.
 pub(crate) fn with_slot(house: House, bytes: &[u8]) -> House {
-    let n = byte_at(bytes, 0) as usize;
-    if bytes.len() < 6 || 15 < n {
+    let n = usize::from(byte_at(bytes, 0));
+    if bytes.len() < 6 || House::SLOTS <= n {
         return house;
     }
-    let session = session_of(&bytes[6..]);
-    let slot = Slot {
+    let mut next = house;
+    next.slots[n] = Slot {
         taken: byte_at(bytes, 1) == 1,
         floor: four_at(bytes, 2),
-        session,
+        session: session_of(&bytes[6..]),
         held: 0,
     };
-    let mut next = house;
-    next.slots[n] = slot;
     next
 }
 
 // So many bytes held for a slot.
 pub(crate) fn with_held(house: House, bytes: &[u8]) -> House {
-    let n = byte_at(bytes, 0) as usize;
-    if 15 < n {
+    let n = usize::from(byte_at(bytes, 0));
+    if House::SLOTS <= n {
         return house;
     }
     let mut next = house;
-    let s = next.slots[n];
-    let session = s.session;
-    next.slots[n] = Slot {
-        taken: s.taken,
-        floor: s.floor,
-        session,
-        held: four_at(bytes, 1) as usize,
-    };
+    next.slots[n].held = four_at(bytes, 1) as usize;
     next
 }
 
 pub(crate) fn with_rows(house: House, bytes: &[u8]) -> House {
-    let mut keys = [0u64; 1024];
+    let mut keys = [0; House::ROWS];
     fill(&mut keys, bytes, 4, 16);
-    let mut counts = [0u64; 1024];
+    let mut counts = [0; House::ROWS];
     fill(&mut counts, bytes, 12, 16);
-    let slots = house.slots;
     House {
         keys,
         counts,
         used: four_at(bytes, 0) as usize,
-        slots,
+        ..house
     }
 }
 
 pub(crate) fn with_keys(house: House, bytes: &[u8]) -> House {
-    let keys = rising_keys();
-    let slots = house.slots;
     House {
-        keys,
-        counts: [1u64; 1024],
+        keys: rising_keys(),
+        counts: [1; House::ROWS],
         used: four_at(bytes, 0) as usize,
-        slots,
+        ..house
     }
 }

@@ -20,18 +20,16 @@ mod kinds_named;
 mod lengths;
 mod sessions;
 
-use case_lines::next_call;
+use case_lines::play_all;
 use fixtures::{byte_at, order_at, session_of};
 use kinds::kind_of;
 use session::Session;
 use std::io;
-use std::io::Read;
-use transcript::say;
 
 // What is asked of a body, which stands behind CPU, TYP and SUB.
 fn ask_body(rt: &impl Print, verb: u8, bytes: &[u8]) -> io::Result<()> {
     if bytes.len() < 3 {
-        return say(rt, b"?\n");
+        return println!(rt; "?");
     }
     let order = order_at(bytes[0]);
     let kind = kind_of(bytes[1], bytes[2]);
@@ -40,13 +38,12 @@ fn ask_body(rt: &impl Print, verb: u8, bytes: &[u8]) -> io::Result<()> {
         b'f' => lengths::say_fit(rt, order, kind, body),
         b'l' => lengths::say_lengths(rt, order, kind, body),
         b'b' => bodies_read::say_body(rt, order, kind, body),
-        _ => say(rt, b"?\n"),
+        _ => println!(rt; "?"),
     }
 }
 
 fn ask(rt: &impl Print, verb: u8, bytes: &[u8]) -> io::Result<()> {
     match verb {
-        0 => Ok(()),
         b't' => kinds_named::say_type(rt, byte_at(bytes, 0)),
         b'o' => kinds_named::say_steps(rt, kind_of(byte_at(bytes, 0), byte_at(bytes, 1))),
         b'p' => sessions::say_places(rt, bytes),
@@ -67,29 +64,10 @@ fn play(rt: &impl Print, session: Session, verb: u8, bytes: &[u8]) -> io::Result
     }
 }
 
-// A proved loop has to end, and nothing says that the input does: the turns are a number that no run uses up.
-fn play_all(
-    rt: &impl Print,
-    stdin: &mut impl Read,
-    chunk: &mut [u8],
-    line: &mut [u8],
-    bytes: &mut [u8],
-) -> io::Result<()> {
-    let mut session = Session::begin();
-    let mut call = case_lines::begin();
-    let mut turns = u64::MAX;
-    while turns > 0 && !call.ended {
-        call = next_call(rt, stdin, call, chunk, line, bytes)?;
-        let n = call.bytes;
-        session = play(rt, session, call.verb, &bytes[0..n])?;
-        turns -= 1;
-    }
-    Ok(())
-}
-
 fn main(rt: HostRuntime) -> io::Result<()> {
-    let mut chunk = [0u8; 65536];
-    let mut line = [0u8; 4096];
-    let mut bytes = [0u8; 65536];
-    play_all(&rt, &mut rt.stdin(), &mut chunk, &mut line, &mut bytes)
+    let mut session = Session::begin();
+    play_all(&rt, &mut rt.stdin(), |verb, bytes| {
+        session = play(&rt, session, verb, bytes)?;
+        Ok(())
+    })
 }

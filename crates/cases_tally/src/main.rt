@@ -9,95 +9,37 @@
 
 mod feed;
 
-ghost use Rattle.std.specs.Prelude.{◌≤◌, IfOk};
-ghost use Rattle.cases_tally.specs.Feed.{Ready};
-
-use case_lines::next_call;
-use feed::{end, put, start};
-use following::Stream;
+use case_lines::play_all;
+use feed::Feed;
 use std::io;
-use std::io::Read;
-use transcript::say;
-
-fn wide(b: u8) -> usize
-    ensures { result ≤ 255 }
-{
-    b as usize
-}
 
 // The bytes behind CUT.
-fn put_cut(s: Stream, buf: &mut [u8], bytes: &[u8]) -> Stream
-    requires { Ready s buf.old }
-    ensures { Ready result buf.new }
-{
-    if bytes.len() < 2 {
-        return s;
+fn put_cut(feed: &mut Feed, bytes: &[u8]) {
+    let [high, low, record @ ..] = bytes else {
+        return;
+    };
+    let cut = usize::from(u16::from_be_bytes([*high, *low]));
+    if 1 <= cut && cut <= 1000 {
+        feed.put(record, cut);
     }
-    let cut = wide(bytes[0]) * 256 + wide(bytes[1]);
-    if cut < 1 || 1000 < cut {
-        return s;
-    }
-    put(s, buf, &bytes[2..], cut)
 }
 
-// A verb that is none of these is said as `?`; 0 is no verb.
-fn no_call(rt: &impl Print, verb: u8) -> io::Result<()> {
-    if verb != 0 {
-        return say(rt, b"?\n");
-    }
-    Ok(())
-}
-
-fn play(rt: &impl Print, s: Stream, buf: &mut [u8], verb: u8, bytes: &[u8]) -> io::Result<Stream>
-    requires { Ready s buf.old }
-    ensures { IfOk result (λ r. Ready r buf.new) }
-{
+// A verb that is none of these is said as `?`.
+fn play(rt: &impl Print, feed: &mut Feed, verb: u8, bytes: &[u8]) -> io::Result<()> {
     match verb {
-        b'n' => Ok(start()),
-        b'p' => Ok(put_cut(s, buf, bytes)),
-        b'e' => {
-            end(rt, s, buf)?;
-            Ok(s)
-        }
-        _ => {
-            no_call(rt, verb)?;
-            Ok(s)
-        }
-    }
-}
-
-// A proved loop has to end, and nothing says that the input does: the turns are a number that no run uses up.
-fn play_all(
-    rt: &impl Print,
-    stdin: &mut impl Read,
-    chunk: &mut [u8],
-    line: &mut [u8],
-    bytes: &mut [u8],
-    buf: &mut [u8],
-) -> io::Result<()> {
-    let mut s = start();
-    let mut call = case_lines::begin();
-    let mut turns = u64::MAX;
-    while turns > 0 && !call.ended {
-        call = next_call(rt, stdin, call, chunk, line, bytes)?;
-        let n = call.bytes;
-        s = play(rt, s, buf, call.verb, &bytes[0..n])?;
-        turns -= 1;
+        b'n' => *feed = Feed::start(),
+        b'p' => put_cut(feed, bytes),
+        b'e' => feed.end(rt)?,
+        _ => println!(rt; "?")?,
     }
     Ok(())
 }
 
 fn main(rt: HostRuntime) -> io::Result<()> {
-    let mut chunk = [0u8; 65536];
-    let mut line = [0u8; 4096];
-    let mut bytes = [0u8; 4096];
-    let mut buf = [0u8; 4096];
+    let mut feed = Feed::start();
     play_all(
         &rt,
         &mut rt.stdin(),
-        &mut chunk,
-        &mut line,
-        &mut bytes,
-        &mut buf,
+        |verb, bytes| play(&rt, &mut feed, verb, bytes),
     )
 }
