@@ -1,6 +1,7 @@
 -- What a verb of the desk asks for with the words behind it. The desk, src/main.rt, its table of lines.
 --
 --   in_four, order_byte   a number in the bytes that a call has for it
+--   played              a call on the house that there may be
 --   closing .. lining   a call with the numbers that its words say
 --   asks                what a verb asks for with its words
 -- Assumes nothing.
@@ -31,6 +32,11 @@ in_four n = capped 4_294_967_295 n
 -- would allow (0, #107).
 abbrev pub order_byte : ℕ → ℕ
 order_byte n = capped 255 n
+
+-- a call on the house, or no call
+abbrev pub played : Option Call → Asked
+played (Some c) = Play c
+played None = NoCall
 
 abbrev pub closing : Option ℕ → Asked
 closing (Some slot) = Play (call.Close (in_four slot))

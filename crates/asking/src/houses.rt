@@ -1,9 +1,8 @@
 // The calls on a house, with the numbers that their words say: one that is none makes no call.
 ghost use Rattle.std.specs.Prelude.{◌≡◌};
-ghost use Rattle.asking.specs.Asks.{in_four, closing, opening, reporting, delivering};
+ghost use Rattle.asking.specs.Asks.{in_four, played, closing, opening, reporting, delivering};
 ghost use Rattle.asking.specs.Asks.{ending, feeding};
 
-use crate::Asked;
 use asked_calls::Call;
 use numerals::up_to;
 
@@ -14,72 +13,39 @@ fn in_four(n: u64) -> u32
     up_to(n, 4294967295) as u32
 }
 
-pub(crate) fn close_asked(slot: Option<u64>) -> Asked
-    ensures { result ≡ closing slot }
+pub(crate) fn close(slot: Option<u64>) -> Option<Call>
+    ensures { played result ≡ closing slot }
 {
-    let Some(s) = slot else {
-        return Asked::NoCall;
-    };
-    Asked::Play(Call::Close(in_four(s)))
+    Some(Call::Close(in_four(slot?)))
 }
 
-pub(crate) fn open_asked(slot: Option<u64>, floor: Option<u64>) -> Asked
-    ensures { result ≡ opening slot floor }
+pub(crate) fn open(slot: Option<u64>, floor: Option<u64>) -> Option<Call>
+    ensures { played result ≡ opening slot floor }
 {
-    let Some(s) = slot else {
-        return Asked::NoCall;
-    };
-    let Some(f) = floor else {
-        return Asked::NoCall;
-    };
-    Asked::Play(Call::Open(in_four(s), in_four(f)))
+    Some(Call::Open(in_four(slot?), in_four(floor?)))
 }
 
-pub(crate) fn report_asked(slot: Option<u64>, long: Option<u64>) -> Asked
-    ensures { result ≡ reporting slot long }
+pub(crate) fn report(slot: Option<u64>, long: Option<u64>) -> Option<Call>
+    ensures { played result ≡ reporting slot long }
 {
-    let Some(s) = slot else {
-        return Asked::NoCall;
-    };
-    let Some(n) = long else {
-        return Asked::NoCall;
-    };
-    Asked::Play(Call::Report(in_four(s), n as usize))
+    Some(Call::Report(in_four(slot?), long? as usize))
 }
 
-pub(crate) fn deliver_asked(slot: Option<u64>, hex: bool) -> Asked
-    ensures { result ≡ delivering slot hex }
+pub(crate) fn deliver(slot: Option<u64>, hex: bool) -> Option<Call>
+    ensures { played result ≡ delivering slot hex }
 {
-    let Some(s) = slot else {
-        return Asked::NoCall;
-    };
-    if hex {
-        return Asked::Play(Call::Deliver(in_four(s)));
-    }
-    Asked::NoCall
+    hex.then_some(Call::Deliver(in_four(slot?)))
 }
 
-pub(crate) fn end_asked(slot: Option<u64>) -> Asked
-    ensures { result ≡ ending slot }
+pub(crate) fn end(slot: Option<u64>) -> Option<Call>
+    ensures { played result ≡ ending slot }
 {
-    let Some(s) = slot else {
-        return Asked::NoCall;
-    };
-    Asked::Play(Call::End(in_four(s)))
+    Some(Call::End(in_four(slot?)))
 }
 
 // No more is lent than the desk has for a slot: 65,540 bytes.
-pub(crate) fn feed_asked(slot: Option<u64>, long: Option<u64>, hex: bool) -> Asked
-    ensures { result ≡ feeding slot long hex }
+pub(crate) fn feed(slot: Option<u64>, long: Option<u64>, hex: bool) -> Option<Call>
+    ensures { played result ≡ feeding slot long hex }
 {
-    let Some(s) = slot else {
-        return Asked::NoCall;
-    };
-    let Some(n) = long else {
-        return Asked::NoCall;
-    };
-    if hex {
-        return Asked::Play(Call::Feed(in_four(s), up_to(n, 65540) as usize));
-    }
-    Asked::NoCall
+    hex.then_some(Call::Feed(in_four(slot?), up_to(long?, 65540) as usize))
 }

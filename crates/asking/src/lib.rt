@@ -6,10 +6,10 @@ mod houses;
 mod lines;
 
 ghost use Rattle.std.specs.Prelude.{[], ◌∷◌, ◌≡◌};
-ghost use Rattle.asking.specs.Asks.{asks};
+ghost use Rattle.asking.specs.Asks.{played, asks};
 
 use asked_calls::Call;
-use houses::{close_asked, deliver_asked, end_asked, feed_asked, open_asked, report_asked};
+use houses::{close, deliver, end, feed, open, report};
 use lines::line_asked;
 use numerals::{is_bytes, number_of};
 use script::Verb;
@@ -34,6 +34,13 @@ pub enum Asked {
     NoCall,
 }
 
+// A call on a house, or none.
+fn played(call: Option<Call>) -> Asked
+    ensures { result ≡ played call }
+{
+    call.map_or(Asked::NoCall, Asked::Play)
+}
+
 pub fn ask_alone(verb: Verb) -> Asked
     ensures { result ≡ asks verb [] }
 {
@@ -49,8 +56,8 @@ pub fn ask_one(verb: Verb, word: &[u8]) -> Asked
     ensures { result ≡ asks verb (word.now ∷ []) }
 {
     match verb {
-        Verb::Close => close_asked(number_of(word)),
-        Verb::End => end_asked(number_of(word)),
+        Verb::Close => played(close(number_of(word))),
+        Verb::End => played(end(number_of(word))),
         _ => Asked::NoCall,
     }
 }
@@ -60,9 +67,9 @@ pub fn ask_two(verb: Verb, first: &[u8], second: &[u8]) -> Asked
 {
     let slot = number_of(first);
     match verb {
-        Verb::Open => open_asked(slot, number_of(second)),
-        Verb::Deliver => deliver_asked(slot, is_bytes(second)),
-        Verb::Report => report_asked(slot, number_of(second)),
+        Verb::Open => played(open(slot, number_of(second))),
+        Verb::Deliver => played(deliver(slot, is_bytes(second))),
+        Verb::Report => played(report(slot, number_of(second))),
         _ => Asked::NoCall,
     }
 }
@@ -71,7 +78,7 @@ pub fn ask_three(verb: Verb, first: &[u8], second: &[u8], third: &[u8]) -> Asked
     ensures { result ≡ asks verb (first.now ∷ second.now ∷ third.now ∷ []) }
 {
     match verb {
-        Verb::Feed => feed_asked(number_of(first), number_of(second), is_bytes(third)),
+        Verb::Feed => played(feed(number_of(first), number_of(second), is_bytes(third))),
         _ => Asked::NoCall,
     }
 }

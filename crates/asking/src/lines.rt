@@ -1,5 +1,6 @@
 // The calls on record lines, with what their words say.
 ghost use Rattle.std.specs.Prelude.{◌≡◌};
+ghost use Rattle.std.specs.Option.{unwrap_or};
 ghost use Rattle.asking.specs.Asks.{order_byte, lining, lined};
 
 use crate::{Asked, Way};
@@ -18,25 +19,16 @@ fn line_numbers(
     at: Option<u64>,
     long: Option<u64>,
     hex: bool,
-) -> Asked
-    ensures { result ≡ lining way order at long hex }
+) -> Option<Asked>
+    ensures { unwrap_or result Asked.NoCall ≡ lining way order at long hex }
 {
-    let Some(o) = order else {
-        return Asked::NoCall;
-    };
-    let Some(a) = at else {
-        return Asked::NoCall;
-    };
-    let Some(l) = long else {
-        return Asked::NoCall;
-    };
-    if 4096 < l {
-        return Asked::NoCall;
+    let order = order_byte(order?);
+    let at = at? as usize;
+    let long = long?;
+    if 4096 < long || !hex {
+        return None;
     }
-    if hex {
-        return Asked::Line(way, order_byte(o), a as usize, l as usize);
-    }
-    Asked::NoCall
+    Some(Asked::Line(way, order, at, long as usize))
 }
 
 pub(crate) fn line_asked(way: Way, order: &[u8], at: &[u8], long: &[u8], hex: &[u8]) -> Asked
@@ -49,4 +41,5 @@ pub(crate) fn line_asked(way: Way, order: &[u8], at: &[u8], long: &[u8], hex: &[
         number_of(long),
         is_bytes(hex),
     )
+    .unwrap_or(Asked::NoCall)
 }

@@ -99,28 +99,16 @@ fn cut_line(line: &[u8]) -> Found
 fn takes_bytes(call: Call) -> bool
     ensures { result ≡ takes_bytes call }
 {
-    match call {
-        Call::Open(_, _) => false,
-        Call::Deliver(_) => true,
-        Call::Report(_, _) => false,
-        Call::Close(_) => false,
-        Call::Figures => false,
-        Call::Feed(_, _) => true,
-        Call::End(_) => false,
-    }
+    matches!(call, Call::Deliver(_) | Call::Feed(_, _))
 }
 
 fn hands_over(asked: Asked) -> bool
     ensures { result ≡ hands_over asked }
 {
     match asked {
-        Asked::Nothing => false,
-        Asked::Comment => false,
-        Asked::Help => false,
-        Asked::Fresh => false,
         Asked::Play(call) => takes_bytes(call),
         Asked::Line(_, _, _, _) => true,
-        Asked::NoCall => false,
+        _ => false,
     }
 }
 
@@ -129,25 +117,19 @@ fn find(line: &[u8]) -> Found
     ensures { (result.asked ≡ asked line.now) × (result.from ≤ length line.now)
         × (bytes_of (drop result.from line.now) ≡ handed line.now) }
 {
-    let end = line.len();
-    if end == 0 {
-        return Found {
-            asked: Asked::Nothing,
-            from: end,
-        };
-    }
-    if line[0] == b'#' {
-        return Found {
-            asked: Asked::Comment,
-            from: end,
-        };
-    }
-    let cut = cut_line(line);
-    let asked = cut.asked;
-    if hands_over(asked) {
-        return cut;
-    }
-    Found { asked, from: end }
+    let from = line.len();
+    let asked = match line {
+        [] => Asked::Nothing,
+        [b'#', ..] => Asked::Comment,
+        _ => {
+            let cut = cut_line(line);
+            if hands_over(cut.asked) {
+                return cut;
+            }
+            cut.asked
+        }
+    };
+    Found { asked, from }
 }
 
 // Reads a line. The bytes that it hands over are laid at its start, and the rest of it stays.
@@ -157,8 +139,8 @@ pub fn read_request(line: &mut [u8]) -> Request
         × (result.bytes ≤ length line.new) }
 {
     let found = find(line);
-    let asked = found.asked;
-    let from = found.from;
-    let bytes = unhex(line, from);
-    Request { asked, bytes }
+    Request {
+        asked: found.asked,
+        bytes: unhex(line, found.from),
+    }
 }

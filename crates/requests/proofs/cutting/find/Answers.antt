@@ -5,25 +5,25 @@ use native.Mathlib.Omega.{arith}
 use Rattle.requests.proofs.CutLaws.{asked_nothing, asked_comment, asked_words, hands_none, hands_some}
 use Rattle.requests.proofs.cutting.find.Goals as goal
 
-pub returns-then-end-eq0 : goal.returns-then-end-eq0
-returns-then-end-eq0 c =
+pub returns-in-empty : goal.returns-in-empty
+returns-in-empty c =
     let line = c.args.line.now in
-    hands_none line _ (asked_nothing line c.if-end-eq0.true) _ refl refl
+    hands_none line _ (asked_nothing line (omega arith)) _ refl refl
 
-pub returns-then-line-eq35 : goal.returns-then-line-eq35
-returns-then-line-eq35 c =
+pub returns-in-35 : goal.returns-in-35
+returns-in-35 c =
     let line = c.args.line.now in
-    hands_none line _ (asked_comment line (omega arith) c.if-line-eq35.true) _ refl refl
+    hands_none line _ (asked_comment line (omega arith) (omega arith)) _ refl refl
 
 pub returns-then-hands_over : goal.returns-then-hands_over
 returns-then-hands_over c =
     let line = c.args.line.now in
     let over = sym c.hands_over.ensures ∙ c.if-hands_over.true in
-    hands_some line _ (c.cut_line-cut.ensures.asks_for ∙ asked_words line (omega arith) c.if-line-eq35.false) _
+    hands_some line _ (c.cut_line-cut.ensures.asks_for ∙ asked_words line (omega arith) (λ e. omega (arith, e))) _
     c.cut_line-cut.ensures.within (c.cut_line-cut.ensures.hex over) over
 
-pub returns : goal.returns
-returns c =
+pub returns-else-hands_over : goal.returns-else-hands_over
+returns-else-hands_over c =
     let line = c.args.line.now in
-    hands_none line _ (c.cut_line-cut.ensures.asks_for ∙ asked_words line (omega arith) c.if-line-eq35.false) _
+    hands_none line _ (c.cut_line-cut.ensures.asks_for ∙ asked_words line (omega arith) (λ e. omega (arith, e))) _
     refl (sym c.hands_over.ensures ∙ c.if-hands_over.false)
