@@ -190,24 +190,17 @@ fn nth_size(layout: Layout, source: &[u8], line: Line, j: usize, n: usize) -> us
     }
 }
 
-// The fields from number j on, each in the part behind the last one.
-fn put_fields(
-    out: &mut [u8],
-    layout: Layout,
-    source: &[u8],
-    line: Line,
-    j: usize,
-    n: usize,
-) -> usize
+// The first n fields, each in the part behind the last one.
+fn put_fields(out: &mut [u8], layout: Layout, source: &[u8], line: Line, n: usize) -> usize
     requires { AllWithin source.now line × (n ≤ length (columns line.tag))
-        × Room (rest_of layout source.now line j n) out.old }
-    ensures { Put (rest_of layout source.now line j n) out.old result out.new }
+        × Room (rest_of layout source.now line 0 n) out.old }
+    ensures { Put (rest_of layout source.now line 0 n) out.old result out.new }
 {
-    if n <= j {
-        return 0;
+    let mut k = 0;
+    for j in 0..n {
+        k += put_nth(&mut out[k..], layout, source, line, j, n);
     }
-    let k = put_nth(out, layout, source, line, j, n);
-    k + put_fields(&mut out[k..], layout, source, line, j + 1, n)
+    k
 }
 
 fn fields_size(layout: Layout, source: &[u8], line: Line, n: usize) -> usize
@@ -280,7 +273,7 @@ fn put_all(out: &mut [u8], layout: Layout, source: &[u8], line: Line, n: usize, 
         out.new }
 {
     let k = put_head(out, layout, line.tag, size);
-    k + put_fields(&mut out[k..], layout, source, line, 0, n)
+    k + put_fields(&mut out[k..], layout, source, line, n)
 }
 
 // A line or a record at an offset of the lent output.

@@ -1,19 +1,22 @@
 -- Laws of the lines that end a stream: how long they are, and how a row's line is put together.
 -- Assumes nothing.
 use Rattle.std.specs.Prelude.{Option, Some, None}
-use mathlib.Core.Path.{◌≡◌, ap}
+use mathlib.Core.Path.{◌≡◌, refl, ap}
 use mathlib.Core.List.{List, ◌++◌, append_assoc, append-nil}
 use Prim.Native.Nat.{ℕ, ◌+◌, ◌-◌, ◌≤◌, ◌<◌}
 use native.Mathlib.Omega.{arith}
 use lib.ListN.{length, take, drop, length-append}
 use Rattle.answers.specs.Numbers.{OfBytes}
 use Rattle.house.specs.declared.Row.{Row}
-use Rattle.output.specs.Placed.{Put}
+use Rattle.output.specs.Placed.{Room, Put}
 use Rattle.output.proofs.Laws.{put_behind}
 use Rattle.digits.proofs.Laws.{digits_most, digits_long}
-use Rattle.line_layouts.specs.Columns.{separator, line_feed}
+use Rattle.line_layouts.specs.declared.Tag.TheVariants.{Hbr}
+use Rattle.line_layouts.specs.Columns.{separator, line_feed, tag_text}
 use Rattle.line_layouts.specs.Layouts.{laid}
-use Rattle.tally_lines.specs.Lines.{row_line, ending, refusal, too_long_line, unfinished_line}
+use Rattle.line_laying.proofs.Sofar.{Sofar}
+use Rattle.tally_lines.specs.Lines.{row_line, refused_word, numbered, ending, at_ending, refusal, too_long_line}
+use Rattle.tally_lines.specs.Lines.{unfinished_line}
 use Rattle.tally_lines.specs.Writing.{cell, hbr_line, most_line, most_refused, PutLine, LaidAt}
 
 -- ---- how long a line is
@@ -51,6 +54,34 @@ line_most head site bin count h s b c =
       digits_most bin (omega (arith, b)),
       digits_most count (omega (arith, c)),
     ))
+
+-- ---- a line's parts, one after the other
+
+abbrev pub after_bin : ℕ → List ℕ
+after_bin count = cell count line_feed
+
+abbrev pub after_site : ℕ → ℕ → List ℕ
+after_site bin count = cell bin separator ++ after_bin count
+
+abbrev pub after_head : ℕ → ℕ → ℕ → List ℕ
+after_head site bin count = cell site separator ++ after_site bin count
+
+pub line_first : (head site bin count : ℕ) (old : List ℕ) → Room (hbr_line head site bin count) old
+    → (n : ℕ) (mid : List ℕ) → Put (tag_text Hbr) old n mid
+    → Sofar (hbr_line head site bin count) (tag_text Hbr) (cell head separator ++ after_head site bin count) old n mid
+line_first head site bin count old room n mid e =
+    record {
+      is =
+          ap (λ (l : List ℕ). tag_text Hbr ++ l)
+          (append_assoc (cell head separator) (cell site separator) (after_site bin count));
+      room = room;
+      put = e;
+    }
+
+pub refused_first : (n : ℕ) (v : Option (ℕ × ℕ)) (k : ℕ) (old : List ℕ) → Room (refusal n v k) old
+    → (m : ℕ) (mid : List ℕ) → Put (numbered refused_word n) old m mid
+    → Sofar (refusal n v k) (numbered refused_word n) (at_ending k v) old m mid
+refused_first n v k old room m mid e = record { is = refl; room = room; put = e }
 
 -- ---- what was put
 

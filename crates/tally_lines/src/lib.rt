@@ -2,14 +2,13 @@
 // it is lent; a row's line goes to an offset.
 #![tactic(auto)]
 
-ghost use Rattle.std.specs.Prelude.{◌+◌, ◌*◌, ◌≤◌, Some, length};
-ghost use Rattle.answers.specs.Numbers.{OfBytes};
+ghost use Rattle.std.specs.Prelude.{◌+◌, ◌*◌, ◌≤◌, length};
 ghost use Rattle.output.specs.Placed.{Put, Room};
-ghost use Rattle.tally_lines.specs.Lines.{numbered, said, ending, at_ending, refusal, refused_line, too_long_line};
+ghost use Rattle.tally_lines.specs.Lines.{numbered, said, ending, refused_line, too_long_line};
 ghost use Rattle.tally_lines.specs.Lines.{unfinished_line, row_line, lines_of};
-ghost use Rattle.tally_lines.specs.Writing.{cell, two_cells, cells, hbr_line, most_line, most_refused, PutLine, LaidAt};
+ghost use Rattle.tally_lines.specs.Writing.{cell, hbr_line, most_line, most_refused, PutLine, LaidAt};
 
-use answers::Answer;
+use answers::{Answer, Saying};
 use digits::put_digits;
 use house::Row;
 use line_laying::put_tag;
@@ -35,15 +34,6 @@ fn put_said(out: &mut [u8], words: &[u8], n: u64) -> usize
     k + put(&mut out[k..], [b'\n'])
 }
 
-// `, head H site S`
-fn put_open_part(out: &mut [u8], head: u8, site: u8) -> usize
-    requires { Room (ending (Some (head, site))) out.old }
-    ensures { Put (ending (Some (head, site))) out.old result out.new }
-{
-    let k = put_numbered(out, b", head ", head as u64);
-    k + put_said(&mut out[k..], b" site ", site as u64)
-}
-
 // How a refusal ends: with the part that it names, if it names one.
 fn put_ending(out: &mut [u8], values: Option<(u8, u8)>) -> usize
     requires { Room (ending values) out.old }
@@ -51,24 +41,11 @@ fn put_ending(out: &mut [u8], values: Option<(u8, u8)>) -> usize
 {
     match values {
         None => put(out, [b'\n']),
-        Some((head, site)) => put_open_part(out, head, site),
+        Some((head, site)) => {
+            let n = put_numbered(out, b", head ", u64::from(head));
+            n + put_said(&mut out[n..], b" site ", u64::from(site))
+        }
     }
-}
-
-fn put_record(out: &mut [u8], k: u64, values: Option<(u8, u8)>) -> usize
-    requires { Room (at_ending k values) out.old }
-    ensures { Put (at_ending k values) out.old result out.new }
-{
-    let n = put_numbered(out, b" at record ", k);
-    n + put_ending(&mut out[n..], values)
-}
-
-fn put_refusal(out: &mut [u8], number: u8, values: Option<(u8, u8)>, k: u64) -> usize
-    requires { (most_refused ≤ length out.old) × OfBytes values }
-    ensures { Put (refusal number values k) out.old result out.new }
-{
-    let n = put_numbered(out, b"refused ", number as u64);
-    n + put_record(&mut out[n..], k, values)
 }
 
 // `refused N at record K`, and of 12 `, head H site S` behind it
@@ -76,9 +53,10 @@ pub fn put_refused(out: &mut [u8], answer: Answer, k: u64) -> usize
     requires { most_refused ≤ length out.old }
     ensures { Put (refused_line answer k) out.old result out.new }
 {
-    let saying = answers::said(answer);
-    let values = saying.1;
-    put_refusal(out, saying.0, values, k)
+    let Saying(number, values) = answers::said(answer);
+    let mut n = put_numbered(out, b"refused ", u64::from(number));
+    n += put_numbered(&mut out[n..], b" at record ", k);
+    n + put_ending(&mut out[n..], values)
 }
 
 // `too long at record K`
@@ -106,37 +84,16 @@ fn put_cell(out: &mut [u8], n: u64, mark: u8) -> usize
     k + put(&mut out[k..], [mark])
 }
 
-// Two of them, one behind the other.
-fn put_two_cells(out: &mut [u8], a: u64, b: u64, mark: u8) -> usize
-    requires { Room (two_cells a b mark) out.old }
-    ensures { Put (two_cells a b mark) out.old result out.new }
-{
-    let k = put_cell(out, a, SEPARATOR);
-    k + put_cell(&mut out[k..], b, mark)
-}
-
-// All four.
-fn put_cells(out: &mut [u8], head: u64, site: u64, bin: u64, count: u64) -> usize
-    requires { Room (cells head site bin count) out.old }
-    ensures { Put (cells head site bin count) out.old result out.new }
-{
-    let k = put_two_cells(out, head, site, SEPARATOR);
-    k + put_two_cells(&mut out[k..], bin, count, LINE_FEED)
-}
-
 // A line of these numbers: of widths that keep it within its room.
 fn put_line(out: &mut [u8], head: u8, site: u8, bin: u16, count: u32) -> usize
     requires { most_line ≤ length out.old }
     ensures { PutLine (hbr_line head site bin count) out.old result out.new }
 {
-    let k = put_tag(out, Tag::Hbr);
-    k + put_cells(
-        &mut out[k..],
-        head as u64,
-        site as u64,
-        bin as u64,
-        count as u64,
-    )
+    let mut n = put_tag(out, Tag::Hbr);
+    n += put_cell(&mut out[n..], u64::from(head), SEPARATOR);
+    n += put_cell(&mut out[n..], u64::from(site), SEPARATOR);
+    n += put_cell(&mut out[n..], u64::from(bin), SEPARATOR);
+    n + put_cell(&mut out[n..], u64::from(count), LINE_FEED)
 }
 
 // The HBR line of a row at an offset behind which there is room for it.

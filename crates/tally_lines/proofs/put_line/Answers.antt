@@ -1,45 +1,75 @@
--- `tally_lines::put_line` meets its contract: the tag, then the four numbers in the part behind it; numbers of such
--- widths have room.
+-- `tally_lines::put_line` meets its contract: the tag, then the four numbers; numbers of such widths have room.
 -- Assumes nothing.
-use mathlib.Core.List.{List}
 use Prim.Native.Nat.{ℕ, ◌≤◌}
 use native.Mathlib.Omega.{arith}
 use lib.ListN.{length}
 use Rattle.output.specs.Placed.{Room}
-use Rattle.output.proofs.Laws.{behind, both}
-use Rattle.line_layouts.specs.declared.Tag.TheVariants.{Hbr}
-use Rattle.line_layouts.specs.Columns.{tag_text}
-use Rattle.tally_lines.specs.Writing.{cells, hbr_line, most_line}
-use Rattle.tally_lines.proofs.Lines.{line_most}
+use Rattle.line_layouts.specs.Columns.{separator}
+use Rattle.line_laying.proofs.Sofar.{sofar_room, sofar_on, sofar_last_room, sofar_last}
+use Rattle.tally_lines.specs.Writing.{cell, hbr_line, most_line}
+use Rattle.tally_lines.proofs.Lines.{line_most, line_first, after_head, after_site, after_bin}
 use Rattle.tally_lines.proofs.put_line.Goals as goal
 
-pub put_cells-requires : goal.put_cells-requires
-put_cells-requires c =
-    let line : List ℕ = hbr_line c.args.head c.args.site c.args.bin c.args.count in
-    let most : length line ≤ most_line =
-    line_most c.args.head c.args.site c.args.bin c.args.count (omega arith) (omega arith) (omega arith)
-    (omega arith) in
-    let room : Room line c.args.out.now = omega (arith, most, c.requires) in
+pub put_cell-n-requires : goal.put_cell-n-requires
+put_cell-n-requires c =
     let a = c.args in
-    behind (tag_text Hbr) (cells a.head a.site a.bin a.count) a.out.now room
-    c.put_tag-k.new.out
-    c.put_tag-k.result
-    c.put_tag-k.ensures
+    let most : length (hbr_line a.head a.site a.bin a.count) ≤ most_line =
+    line_most a.head a.site a.bin a.count (omega arith) (omega arith) (omega arith) (omega arith) in
+    let room : Room (hbr_line a.head a.site a.bin a.count) a.out.now = omega arith in
+    let s1 = line_first a.head a.site a.bin a.count a.out.now room _ _ c.put_tag-n.ensures in
+    rw c.from.ensures (sofar_room _ _ (cell a.head separator) (after_head a.site a.bin a.count) _ _ _ s1)
+
+pub put_cell-n-requires-2 : goal.put_cell-n-requires-2
+put_cell-n-requires-2 c =
+    let a = c.args in
+    let most : length (hbr_line a.head a.site a.bin a.count) ≤ most_line =
+    line_most a.head a.site a.bin a.count (omega arith) (omega arith) (omega arith) (omega arith) in
+    let room : Room (hbr_line a.head a.site a.bin a.count) a.out.now = omega arith in
+    let s1 = line_first a.head a.site a.bin a.count a.out.now room _ _ c.put_tag-n.ensures in
+    let s2 = sofar_on _ _ (cell a.head separator) (after_head a.site a.bin a.count) _ _ _ s1 _ _
+    (rw c.from.ensures at c.put_cell-n.ensures) in
+    rw c.from-2.ensures (sofar_room _ _ (cell a.site separator) (after_site a.bin a.count) _ _ _ s2)
+
+pub put_cell-n-requires-3 : goal.put_cell-n-requires-3
+put_cell-n-requires-3 c =
+    let a = c.args in
+    let most : length (hbr_line a.head a.site a.bin a.count) ≤ most_line =
+    line_most a.head a.site a.bin a.count (omega arith) (omega arith) (omega arith) (omega arith) in
+    let room : Room (hbr_line a.head a.site a.bin a.count) a.out.now = omega arith in
+    let s1 = line_first a.head a.site a.bin a.count a.out.now room _ _ c.put_tag-n.ensures in
+    let s2 = sofar_on _ _ (cell a.head separator) (after_head a.site a.bin a.count) _ _ _ s1 _ _
+    (rw c.from.ensures at c.put_cell-n.ensures) in
+    let s3 = sofar_on _ _ (cell a.site separator) (after_site a.bin a.count) _ _ _ s2 _ _
+    (rw c.from-2.ensures at c.put_cell-n-2.ensures) in
+    rw c.from-3.ensures (sofar_room _ _ (cell a.bin separator) (after_bin a.count) _ _ _ s3)
+
+pub put_cell-requires : goal.put_cell-requires
+put_cell-requires c =
+    let a = c.args in
+    let most : length (hbr_line a.head a.site a.bin a.count) ≤ most_line =
+    line_most a.head a.site a.bin a.count (omega arith) (omega arith) (omega arith) (omega arith) in
+    let room : Room (hbr_line a.head a.site a.bin a.count) a.out.now = omega arith in
+    let s1 = line_first a.head a.site a.bin a.count a.out.now room _ _ c.put_tag-n.ensures in
+    let s2 = sofar_on _ _ (cell a.head separator) (after_head a.site a.bin a.count) _ _ _ s1 _ _
+    (rw c.from.ensures at c.put_cell-n.ensures) in
+    let s3 = sofar_on _ _ (cell a.site separator) (after_site a.bin a.count) _ _ _ s2 _ _
+    (rw c.from-2.ensures at c.put_cell-n-2.ensures) in
+    let s4 = sofar_on _ _ (cell a.bin separator) (after_bin a.count) _ _ _ s3 _ _
+    (rw c.from-3.ensures at c.put_cell-n-3.ensures) in
+    rw c.from-4.ensures (sofar_last_room _ _ _ _ _ _ s4)
 
 pub returns : goal.returns
 returns c =
-    let line : List ℕ = hbr_line c.args.head c.args.site c.args.bin c.args.count in
-    let most : length line ≤ most_line =
-    line_most c.args.head c.args.site c.args.bin c.args.count (omega arith) (omega arith) (omega arith)
-    (omega arith) in
-    let room : Room line c.args.out.now = omega (arith, most, c.requires) in
     let a = c.args in
-    let all = both (tag_text Hbr) (cells a.head a.site a.bin a.count) a.out.now room
-    c.put_tag-k.new.out
-    c.put_tag-k.result
-    c.put_tag-k.ensures
-    c.put_cells.new.out
-    c.put_cells.result
-    c.put_cells.ensures
-    in
+    let most : length (hbr_line a.head a.site a.bin a.count) ≤ most_line =
+    line_most a.head a.site a.bin a.count (omega arith) (omega arith) (omega arith) (omega arith) in
+    let room : Room (hbr_line a.head a.site a.bin a.count) a.out.now = omega arith in
+    let s1 = line_first a.head a.site a.bin a.count a.out.now room _ _ c.put_tag-n.ensures in
+    let s2 = sofar_on _ _ (cell a.head separator) (after_head a.site a.bin a.count) _ _ _ s1 _ _
+    (rw c.from.ensures at c.put_cell-n.ensures) in
+    let s3 = sofar_on _ _ (cell a.site separator) (after_site a.bin a.count) _ _ _ s2 _ _
+    (rw c.from-2.ensures at c.put_cell-n-2.ensures) in
+    let s4 = sofar_on _ _ (cell a.bin separator) (after_bin a.count) _ _ _ s3 _ _
+    (rw c.from-3.ensures at c.put_cell-n-3.ensures) in
+    let all = sofar_last _ _ _ _ _ _ s4 _ _ (rw c.from-4.ensures at c.put_cell.ensures) in
     record { put = all; few = omega (arith, all.count, most) }
