@@ -23,28 +23,14 @@ pub fn needed(st: Standing, bytes: &[u8]) -> usize
     4 + numbers::u2(order, bytes) as usize
 }
 
-// Moves the bytes from `at` to before `end` to the front of a buffer.
-fn shift(buf: &mut [u8], at: usize, end: usize) -> usize
-    requires { (at ≤ end) × (end ≤ length buf.old) }
-    ensures { (result ≡ end - at) × (take result buf.new ≡ take result (drop at buf.old)) }
-{
-    let n = end - at;
-    let mut i: usize = 0;
-    while i < n {
-        buf[i] = buf[at + i];
-        i += 1;
-    }
-    n
-}
-
 // The bytes of a record that is not done with stay at the front for the next chunk. Those that stand there are not moved:
 // a long record that comes in many chunks is not copied once for each.
 pub fn keep(buf: &mut [u8], at: usize, end: usize) -> usize
     requires { (at ≤ end) × (end ≤ length buf.old) }
     ensures { (result ≡ end - at) × (take result buf.new ≡ take result (drop at buf.old)) }
 {
-    if at == 0 {
-        return end;
+    if at != 0 {
+        buf.copy_within(at..end, 0);
     }
-    shift(buf, at, end)
+    end - at
 }
