@@ -7,19 +7,16 @@ use house::{House, Room, Slot};
 use rows::held_by;
 
 // The rows still promised to a slot: its floor less what it holds, where that is above nought.
+#[tactic(auto, unfolding(house::specs::House::unfilled))]
 pub fn unfilled_of(i: usize, s: Slot, keys: &[u64; House::ROWS], used: usize) -> u32
     requires { (i < 16) × LentKeys keys.now used }
     ensures { result ≡ unfilled i s (take used keys.now) }
 {
-    if s.taken {
-        let floor = s.floor as usize;
-        let held = held_by(keys, used, i);
-        if floor < held {
-            return 0;
-        }
-        return (floor - held) as u32;
+    if !s.taken {
+        return 0;
     }
-    0
+    let held = held_by(keys, used, i);
+    (s.floor as usize).saturating_sub(held) as u32
 }
 
 // What a slot of a sound house sees of it, where the test has told how many rows the house owes.
