@@ -12,13 +12,13 @@ use numbers::Order;
 pub const MOST_BIN: u16 = 32767;
 
 // An absent soft bin.
-const NO_BIN: u16 = 65535;
+const NO_BIN: u16 = u16::MAX;
 
 // Head 255 means all sites.
 pub const ALL_SITES: u8 = 255;
 
 // A count of all ones is missing.
-const NO_COUNT: u32 = 4294967295;
+const NO_COUNT: u32 = u32::MAX;
 
 // A name in a body: where its first byte stands, and how many it has.
 #[derive(Clone, Copy)]
@@ -27,18 +27,11 @@ pub struct Name {
     pub len: usize,
 }
 
-// The number is read in both orders and one is picked: a test of the order before each number costs more than reading.
 pub fn u2_at(order: Order, body: &[u8], at: usize) -> u16
     requires { at + 2 ≤ length body.now }
     ensures { result ≡ number order (front 2 at body.now) }
 {
-    let part = &body[at..];
-    let high_first = numbers::u2(Order::HighFirst, part);
-    let low_first = numbers::u2(Order::LowFirst, part);
-    match order {
-        Order::HighFirst => high_first,
-        Order::LowFirst => low_first,
-    }
+    numbers::u2(order, &body[at..])
 }
 
 pub fn u4_at(order: Order, body: &[u8], at: usize) -> u32
@@ -49,78 +42,57 @@ pub fn u4_at(order: Order, body: &[u8], at: usize) -> u32
 }
 
 // The optional count at an offset: missing where it is cut off or all ones.
+#[tactic(auto, unfolding(crate::specs::Values::count_at))]
 pub fn count_at(order: Order, body: &[u8], at: usize) -> Option<u32>
     ensures { result ≡ count_at order body.now at }
 {
-    if body.len() <= at {
+    let part = body.get(at..)?;
+    if part.len() < 4 {
         return None;
     }
-    if body.len() - at < 4 {
-        return None;
-    }
-    let n = u4_at(order, body, at);
-    if n == NO_COUNT { None } else { Some(n) }
+    let n = numbers::u4(order, part);
+    (n != NO_COUNT).then_some(n)
 }
 
 // The optional P/F at an offset: missing where it is cut off or a space.
+#[tactic(auto, unfolding(crate::specs::Values::pass_fail_at))]
 pub fn pass_fail_at(body: &[u8], at: usize) -> Option<u32>
     ensures { result ≡ pass_fail_at body.now at }
 {
-    if body.len() <= at {
-        return None;
-    }
-    let c = body[at];
-    if c == b' ' { None } else { Some(c as u32) }
+    let c = *body.get(at)?;
+    (c != b' ').then_some(u32::from(c))
 }
 
 // The optional name whose count byte stands at an offset: missing where it is cut off or empty.
+#[tactic(auto, unfolding(crate::specs::Values::name_at))]
 pub fn name_at(body: &[u8], at: usize) -> Option<Name>
     ensures { result ≡ name_at body.now at }
 {
-    if body.len() <= at {
-        return None;
-    }
-    let n = body[at];
-    if n == 0 {
-        None
-    } else {
-        Some(Name {
-            at: at + 1,
-            len: n as usize,
-        })
-    }
+    let n = *body.get(at)?;
+    (n != 0).then_some(Name {
+        at: at + 1,
+        len: usize::from(n),
+    })
 }
 
 // Value rule of the optional P/F at an offset.
+#[tactic(auto, unfolding(crate::specs::Values::pass_fail_fits))]
 pub fn pass_fail_fits(body: &[u8], at: usize) -> bool
     ensures { result ≡ pass_fail_fits body.now at }
 {
-    if body.len() <= at {
-        return true;
-    }
-    let c = body[at];
-    if c == b'P' {
-        return true;
-    }
-    if c == b'F' {
-        return true;
-    }
-    c == b' '
+    matches!(body.get(at), None | Some(b'P' | b'F' | b' '))
 }
 
 // Value rule of the optional soft bin at an offset.
+#[tactic(auto, unfolding(crate::specs::Values::soft_bin_fits))]
 pub fn soft_bin_fits(order: Order, body: &[u8], at: usize) -> bool
     ensures { result ≡ soft_bin_fits order body.now at }
 {
-    if body.len() <= at {
-        return true;
+    match body.get(at..) {
+        Some(part) if 2 <= part.len() => {
+            let n = numbers::u2(order, part);
+            n <= MOST_BIN || n == NO_BIN
+        }
+        _ => true,
     }
-    if body.len() - at < 2 {
-        return true;
-    }
-    let n = u2_at(order, body, at);
-    if n <= MOST_BIN {
-        return true;
-    }
-    n == NO_BIN
 }
