@@ -1,7 +1,7 @@
 // What the records of counts say: document 01, "Record frame and kinds", PCR, HBR and SBR.
 #![tactic(auto)]
 
-ghost use Rattle.std.specs.Prelude.{◌≡◌, ◌≤◌, length};
+ghost use Rattle.std.specs.Prelude.{◌≡◌, ◌≤◌, length, if◌then◌else◌};
 ghost use Rattle.fields.specs.Tables.{fits_body, pcr};
 ghost use Rattle.count_bodies.specs.Counts.{pcr_of, bin_count_of, bin_values_fit, bin_body_fits};
 
@@ -32,71 +32,46 @@ pub struct Bin {
     pub name: Option<Name>,
 }
 
-// Whether a PCR's body fits.
-pub fn fits_pcr(order: Order, body: &[u8]) -> bool
-    ensures { result ≡ fits_body order pcr body.now }
+// What a PCR's body says, where it fits.
+pub fn read_pcr(order: Order, body: &[u8]) -> Option<Pcr>
+    ensures { result ≡ (if fits_body order pcr body.now then Some (pcr_of order body.now) else None) }
 {
-    fits_table(order, body, &PCR, 3)
-}
-
-// What a PCR's body says that has its required fields.
-pub fn pcr_of(order: Order, body: &[u8]) -> Pcr
-    requires { 6 ≤ length body.now }
-    ensures { result ≡ pcr_of order body.now }
-{
-    let parts = u4_at(order, body, 2);
-    let retest = count_at(order, body, 6);
-    let abort = count_at(order, body, 10);
-    let good = count_at(order, body, 14);
-    let functional = count_at(order, body, 18);
-    Pcr {
+    if !fits_table(order, body, &PCR, 3) {
+        return None;
+    }
+    Some(Pcr {
         head: body[0],
         site: body[1],
-        parts,
-        retest,
-        abort,
-        good,
-        functional,
-    }
+        parts: u4_at(order, body, 2),
+        retest: count_at(order, body, 6),
+        abort: count_at(order, body, 10),
+        good: count_at(order, body, 14),
+        functional: count_at(order, body, 18),
+    })
 }
 
+// The values that an HBR's or SBR's required fields and its P/F have.
 fn bin_values_fit(order: Order, body: &[u8]) -> bool
     requires { 8 ≤ length body.now }
     ensures { result ≡ bin_values_fit order body.now }
 {
-    if u2_at(order, body, 2) <= MOST_BIN {
-        pass_fail_fits(body, 8)
-    } else {
-        false
-    }
+    u2_at(order, body, 2) <= MOST_BIN && pass_fail_fits(body, 8)
 }
 
-// Whether an HBR's or SBR's body fits, its values too.
-pub fn fits_bin(order: Order, body: &[u8]) -> bool
-    ensures { result ≡ bin_body_fits order body.now }
+// What an HBR's or SBR's body says, where it fits, its values too.
+pub fn read_bin(soft: bool, order: Order, body: &[u8]) -> Option<Bin>
+    ensures { result ≡ (if bin_body_fits order body.now then Some (bin_count_of soft order body.now) else None) }
 {
-    if fits_table(order, body, &BIN, 4) {
-        return bin_values_fit(order, body);
+    if !(fits_table(order, body, &BIN, 4) && bin_values_fit(order, body)) {
+        return None;
     }
-    false
-}
-
-// What an HBR's or SBR's body says that has its required fields.
-pub fn bin_count_of(soft: bool, order: Order, body: &[u8]) -> Bin
-    requires { 8 ≤ length body.now }
-    ensures { result ≡ bin_count_of soft order body.now }
-{
-    let bin = u2_at(order, body, 2);
-    let count = u4_at(order, body, 4);
-    let pf = pass_fail_at(body, 8);
-    let name = name_at(body, 9);
-    Bin {
+    Some(Bin {
         soft,
         head: body[0],
         site: body[1],
-        bin,
-        count,
-        pf,
-        name,
-    }
+        bin: u2_at(order, body, 2),
+        count: u4_at(order, body, 4),
+        pf: pass_fail_at(body, 8),
+        name: name_at(body, 9),
+    })
 }

@@ -1,12 +1,12 @@
 -- How a body is made of fields. Document 01, "Record frame and kinds", bodies read.
 --
---   u1 .. bn    the types of a field; type_of, types: what the numbers of the code's tables stand for
+--   u1 .. bn    the types of a field
 --   size        how many bytes a field takes, by its type, the byte order and the bytes there
 --   sizes       how many bytes fields take, one behind the other
 --   ends_among   whether bytes end as optional fields may
 --   fits        whether bytes are a body of given fields; fits_table: by a table of the code
 -- Assumes nothing.
-use Rattle.std.specs.Prelude.{ℕ, ◌+◌, Bool, true, false, cond, ◌&&◌, List, [], ◌∷◌, map, eqb, leb, length, get_or, take, drop}
+use Rattle.std.specs.Prelude.{ℕ, ◌+◌, Bool, true, false, ◌&&◌, List, [], ◌∷◌, leb, length, get_or, take, drop}
 use Rattle.numbers.specs.declared.Order.{Order}
 use Rattle.fields.specs.declared.FieldType.{FieldType}
 use Rattle.fields.specs.declared.FieldType.TheVariants.{U, I, C1, B1, Cn, Bn}
@@ -38,21 +38,6 @@ bn = Bn
 -- what stands past a table's end
 abbrev pub no_type : FieldType
 no_type = U 0
-
--- ---- the code's tables, a number for each type
-
-unfoldable pub type_of : ℕ → FieldType
-type_of code =
-    cond (eqb code 1) u1
-    (cond (eqb code 2) u2
-    (cond (eqb code 3) i2
-    (cond (eqb code 4) u4
-    (cond (eqb code 5) c1
-    (cond (eqb code 6) b1
-    (cond (eqb code 7) cn bn))))))
-
-abbrev pub types : List ℕ → List FieldType
-types codes = map type_of codes
 
 -- ---- sizes
 
@@ -98,6 +83,5 @@ fits order required optional bytes =
     && ends_among order optional (drop (sizes order required bytes) bytes)
 
 -- the same by a table of the code, whose first fields are the required ones
-abbrev pub fits_table : Order → List ℕ → ℕ → List ℕ → Bool
-fits_table order codes required bytes =
-    fits order (take required (types codes)) (drop required (types codes)) bytes
+abbrev pub fits_table : Order → List FieldType → ℕ → List ℕ → Bool
+fits_table order fields required bytes = fits order (take required fields) (drop required fields) bytes

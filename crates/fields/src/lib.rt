@@ -2,8 +2,8 @@
 // order of its bytes, and one walk for all of them.
 #![tactic(auto)]
 
-ghost use Rattle.std.specs.Prelude.{◌≡◌, ◌+◌, ◌≤◌, ◌<◌, length, get_or, drop};
-ghost use Rattle.fields.specs.Fields.{type_of, types, size, ends_among, fits_table};
+ghost use Rattle.std.specs.Prelude.{◌≡◌, ◌≤◌, length};
+ghost use Rattle.fields.specs.Fields.{size, ends_among, fits_table};
 
 use numbers::Order;
 
@@ -11,146 +11,101 @@ use numbers::Order;
 // byte tells how many bytes stand behind it.
 #[derive(Clone, Copy)]
 pub enum FieldType {
-    U(usize),
-    I(usize),
+    U(u8),
+    I(u8),
     C1,
     B1,
     Cn,
     Bn,
 }
 
-// A table holds a number for each type: a slice of numbers of any length is lent to the walk, one of enums to none.
-const U1: u8 = 1;
+const U1: FieldType = FieldType::U(1);
 
-const U2: u8 = 2;
+const U2: FieldType = FieldType::U(2);
 
-const I2: u8 = 3;
+const I2: FieldType = FieldType::I(2);
 
-const U4: u8 = 4;
+const U4: FieldType = FieldType::U(4);
 
-const C1: u8 = 5;
+const C1: FieldType = FieldType::C1;
 
-const B1: u8 = 6;
+const B1: FieldType = FieldType::B1;
 
-const CN: u8 = 7;
+const CN: FieldType = FieldType::Cn;
 
-const BN: u8 = 8;
+const BN: FieldType = FieldType::Bn;
 
 // CPU_TYPE, STDF_VER
-pub const FAR: [u8; 2] = [U1, U1];
+pub static FAR: [FieldType; 2] = [U1, U1];
 
 // times, station, codes, burn-in, LOT_ID to JOB_NAM, bar, JOB_REV to SUPR_NAM
-pub const MIR: [u8; 38] = [
+pub static MIR: [FieldType; 38] = [
     U4, U4, U1, C1, C1, C1, U2, C1, CN, CN, CN, CN, CN, CN, CN, CN, CN, CN, CN, CN, CN, CN, CN, CN,
     CN, CN, CN, CN, CN, CN, CN, CN, CN, CN, CN, CN, CN, CN,
 ];
 
 // time, bar, disposition, two descriptions
-pub const MRR: [u8; 4] = [U4, C1, CN, CN];
+pub static MRR: [FieldType; 4] = [U4, C1, CN, CN];
 
 // head, site, parts, bar, retest, abort, good, functional
-pub const PCR: [u8; 7] = [U1, U1, U4, U4, U4, U4, U4];
+pub static PCR: [FieldType; 7] = [U1, U1, U4, U4, U4, U4, U4];
 
 // head, site, bin, count, bar, P/F, name: HBR and SBR alike
-pub const BIN: [u8; 6] = [U1, U1, U2, U4, C1, CN];
+pub static BIN: [FieldType; 6] = [U1, U1, U2, U4, C1, CN];
 
 // head, site
-pub const PIR: [u8; 2] = [U1, U1];
+pub static PIR: [FieldType; 2] = [U1, U1];
 
 // head, site, PART_FLG, tests, hard bin, bar, soft bin, X, Y, time, id, text, fix
-pub const PRR: [u8; 12] = [U1, U1, B1, U2, U2, U2, I2, I2, U4, CN, CN, BN];
+pub static PRR: [FieldType; 12] = [U1, U1, B1, U2, U2, U2, I2, I2, U4, CN, CN, BN];
 
 // head, site group, start time, bar, wafer id
-pub const WIR: [u8; 4] = [U1, U1, U4, CN];
+pub static WIR: [FieldType; 4] = [U1, U1, U4, CN];
 
 // head, site group, finish time, parts, bar, retest, abort, good, functional, four ids, two descriptions
-pub const WRR: [u8; 14] = [U1, U1, U4, U4, U4, U4, U4, U4, CN, CN, CN, CN, CN, CN];
+pub static WRR: [FieldType; 14] = [U1, U1, U4, U4, U4, U4, U4, U4, CN, CN, CN, CN, CN, CN];
 
-// The type that a number of a table stands for.
-fn type_of(code: u8) -> FieldType
-    ensures { result ≡ type_of code }
+// How many bytes a field of that type takes that begins with these. The types of today take the same in either order.
+fn size(order: Order, field: FieldType, bytes: &[u8]) -> usize
+    ensures { result ≡ size order field bytes.now }
 {
-    match code {
-        1 => FieldType::U(1),
-        2 => FieldType::U(2),
-        3 => FieldType::I(2),
-        4 => FieldType::U(4),
-        5 => FieldType::C1,
-        6 => FieldType::B1,
-        7 => FieldType::Cn,
-        _ => FieldType::Bn,
+    match field {
+        FieldType::U(width) | FieldType::I(width) => usize::from(width),
+        FieldType::C1 | FieldType::B1 => 1,
+        FieldType::Cn | FieldType::Bn => bytes.first().map_or(1, |&n| 1 + usize::from(n)),
     }
 }
 
-fn wide(x: u8) -> usize
-    ensures { (result ≡ x) × (result < 256) }
+// Whether bytes end well where their fields are optional: after any of them or before the first, not inside one and not
+// past the last.
+#[tactic(auto, using(crate::proofs::Laws::ends_none))]
+pub fn ends_among(order: Order, fields: &[FieldType], bytes: &[u8]) -> bool
+    ensures { result ≡ ends_among order fields.now bytes.now }
 {
-    x as usize
-}
-
-// A count byte and as many bytes as it says; past the body's end it says none.
-fn counted(body: &[u8], at: usize) -> usize
-    ensures { result ≡ 1 + get_or body.now at 0 }
-{
-    if body.len() <= at {
-        return 1;
-    }
-    wide(body[at]) + 1
-}
-
-// How many bytes a field of that type takes that begins at `at`. The types of today take the same in either order.
-fn size_of(order: Order, typ: FieldType, body: &[u8], at: usize) -> usize
-    ensures { result ≡ size order typ (drop at body.now) }
-{
-    match typ {
-        FieldType::U(width) => width,
-        FieldType::I(width) => width,
-        FieldType::C1 => 1,
-        FieldType::B1 => 1,
-        FieldType::Cn => counted(body, at),
-        FieldType::Bn => counted(body, at),
-    }
-}
-
-// Whether a body ends well from `from` on, where the fields behind the first `known` are optional: after any of them or
-// before the first, not inside one and not past the last.
-pub fn fits_from(order: Order, body: &[u8], fields: &[u8], from: usize, known: usize) -> bool
-    requires { (from ≤ length body.now) × (known ≤ length fields.now) }
-    ensures { result ≡ ends_among order (drop known (types fields.now)) (drop from body.now) }
-{
-    let mut at = from;
-    let mut j = known;
-    while j < fields.len() {
-        if body.len() <= at {
+    let mut left = bytes;
+    for field in fields {
+        if left.is_empty() {
             return true;
         }
-        let typ = type_of(fields[j]);
-        let n = size_of(order, typ, body, at);
-        if body.len() - at < n {
+        let Some(behind) = left.get(size(order, *field, left)..) else {
             return false; // it stops inside a field
-        }
-        at += n;
-        j += 1;
+        };
+        left = behind;
     }
-    body.len() <= at
+    left.is_empty()
 }
 
 // Whether a body is made of the fields, of which the first `required` must be there.
-pub fn fits_table(order: Order, body: &[u8], fields: &[u8], required: usize) -> bool
+pub fn fits_table(order: Order, body: &[u8], fields: &[FieldType], required: usize) -> bool
     requires { required ≤ length fields.now }
     ensures { result ≡ fits_table order fields.now required body.now }
 {
-    let mut at: usize = 0;
-    let mut j: usize = 0;
-    while j < required {
-        let typ = type_of(fields[j]);
-        let n = size_of(order, typ, body, at);
-        let left = body.len() - at;
-        if left < n {
+    let mut left = body;
+    for field in &fields[..required] {
+        let Some(behind) = left.get(size(order, *field, left)..) else {
             return false; // a required field is cut off
-        }
-        at += n;
-        j += 1;
+        };
+        left = behind;
     }
-    fits_from(order, body, fields, at, required)
+    ends_among(order, &fields[required..], left)
 }

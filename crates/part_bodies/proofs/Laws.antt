@@ -1,18 +1,16 @@
--- The statements of specs/Laws.antt, proved; and the laws of fields and values as the functions' proofs cite them, one
--- an answer, each under the tests before it.
+-- The statements of specs/Laws.antt, proved; and how a PRR's fields go on behind those of fixed sizes.
 -- Assumes nothing.
 use mathlib.Core.Path.{◌≡◌, refl, ◌∙◌}
-use mathlib.Core.Bool.{true, false, ◌&&◌}
+use mathlib.Core.Bool.{true, ◌&&◌}
 use mathlib.Core.List.{List, [], ◌∷◌}
-use Prim.Native.Nat.{ℕ, ◌%◌, ◌≤◌, ◌<◌}
+use Prim.Native.Nat.{ℕ, ◌≤◌, ◌<◌}
 use native.Mathlib.Omega.{arith}
-use borrow.Author.Tests.{le-leb, lt-leb, leb-true, eq-eqb, ne_eqb, eqb-false, not-true}
-use lib.Dec.{eqb, leb}
+use borrow.Author.Tests.{le-leb, leb-true, eqb-false, not-true}
+use lib.Dec.{eqb}
 use lib.ListN.{length, get_or, drop, length-drop}
 use lib.Seq.{drop-drop}
 use Rattle.prelude.proofs.Both.{both_left, both_right}
 use Rattle.numbers.specs.declared.Order.{Order}
-use Rattle.numbers.specs.Laws.{Bytes}
 use Rattle.fields.specs.Fields.{u2, i2, u4, cn, bn, ends_among}
 use Rattle.fields.specs.Tables.{fits_body, pir, prr, value_of}
 use Rattle.fields.proofs.Laws.{fixed_there}
@@ -23,16 +21,7 @@ use Rattle.part_bodies.specs.Laws.{PirSaidRight, PrrSaidRight}
 -- ---- fields
 
 module _ (order : Order) (b : List ℕ) where
-  pub pir_short : length b < 2 → fits_body order pir b ≡ false
-  pir_short h = rw (lt-leb 2 (length b) h)
-
-  pub pir_behind : 2 ≤ length b → fits_body order pir b ≡ ends_among order [] (drop 2 b)
-  pir_behind h = rw (le-leb 2 (length b) h)
-
-  pub prr_short : length b < 7 → fits_body order prr b ≡ false
-  prr_short h = rw (lt-leb 7 (length b) h)
-
-  pub prr_behind : 7 ≤ length b → fits_body order prr b ≡ ends_among order prr.optional (drop 7 b)
+  prr_behind : 7 ≤ length b → fits_body order prr b ≡ ends_among order prr.optional (drop 7 b)
   prr_behind h = rw (le-leb 7 (length b) h)
 
   -- where the soft bin, X, Y and the time are there, those behind them tell
@@ -42,23 +31,6 @@ module _ (order : Order) (b : List ℕ) where
       ∙ fixed_there order (u2 ∷ i2 ∷ i2 ∷ u4 ∷ []) (cn ∷ cn ∷ bn ∷ []) (drop 7 b) refl
       (omega (arith, length-drop 7 b))
       ∙ rw (drop-drop 10 7 b)
-
--- ---- value rules
-
-module _ (order : Order) (b : List ℕ) (n : ℕ) where
-  pub prr_all_sites : get_or b 0 0 ≡ all_sites → prr_values_fit order b ≡ false
-  prr_all_sites e = rw (eq-eqb (get_or b 0 0) all_sites e)
-
-  module _ (site : get_or b 0 0 ≡ all_sites → ⊥) where
-    pub prr_both_bits : get_or b 2 0 % 4 ≡ 3 → prr_values_fit order b ≡ false
-    prr_both_bits e = rw (ne_eqb (get_or b 0 0) all_sites site, eq-eqb (get_or b 2 0 % 4) 3 e)
-
-    module _ (bits : get_or b 2 0 % 4 ≡ 3 → ⊥) (is : n ≡ value_of order prr 4 b) where
-      pub prr_high : most_bin < n → prr_values_fit order b ≡ false
-      prr_high e = rw (ne_eqb (get_or b 0 0) all_sites site, ne_eqb (get_or b 2 0 % 4) 3 bits, ← is, lt-leb n most_bin e)
-
-      pub prr_low : n ≤ most_bin → prr_values_fit order b ≡ soft_bin_fits order b 7
-      prr_low e = rw (ne_eqb (get_or b 0 0) all_sites site, ne_eqb (get_or b 2 0 % 4) 3 bits, ← is, le-leb n most_bin e)
 
 -- ---- what a part is known to be
 

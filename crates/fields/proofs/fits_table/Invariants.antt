@@ -2,15 +2,11 @@
 -- optional ones at each turn just where it did before the first; then only the optional ones are left.
 -- Assumes nothing.
 use mathlib.Core.Path.{◌≡◌}
-use Prim.Native.Nat.{◌-◌, ◌≤◌}
-use lib.ListN.{length, take, drop}
-use Rattle.fields.specs.Fields.{types, fits}
+use lib.ListN.{take, drop}
+use Rattle.fields.specs.Fields.{fits}
 use Rattle.fields.proofs.fits_table.Given as goal
 
-abbrev pub invariant-loop-j : goal.invariant-loop-j
-invariant-loop-j l = (l.at ≤ length l.body)
-    × (fits l.order (drop l.j (take l.required (types l.fields))) (drop l.required (types l.fields)) (drop l.at l.body)
-    ≡ fits l.order (take l.required (types l.fields)) (drop l.required (types l.fields)) l.body)
-
-abbrev pub decreases-loop-j : goal.decreases-loop-j
-decreases-loop-j l = l.required - l.j
+abbrev pub invariant-loop-field : goal.invariant-loop-field
+invariant-loop-field l =
+    fits l.order (drop l.field-index (take l.required l.fields)) (drop l.required l.fields) l.left
+    ≡ fits l.order (take l.required l.fields) (drop l.required l.fields) l.body
