@@ -19,15 +19,7 @@ use Rattle.session.specs.declared.Verdict.TheVariants.{Refused, Taken}
 use Rattle.session.specs.Verdicts.{stands}
 
 abbrev pub in_order : Standing → Order → Standing
-in_order st order =
-    record {
-      place = Header;
-      order = order;
-      opened = st.opened;
-      pcr = st.pcr;
-      results = st.results;
-      wafers = st.wafers;
-    }
+in_order st order = record st { place = Header; order = order }
 
 -- .. then a length field that isn't 2 in the CPU's order is 3; then 5
 unfoldable pub judge_in : Standing → List ℕ → Order → Verdict
