@@ -17,24 +17,22 @@ mod trying;
 
 ghost use Rattle.std.specs.Prelude.{◌≤◌, length};
 
-use input::{Found, next_line};
+use input::each_line;
 use numerals::{number_of, up_to};
 use script::word_end;
 use std::io;
-use std::io::Read;
-use transcript::say;
 
 // A number above the last time counts as the last time.
 fn say_written(rt: &impl Print, word: &[u8]) -> io::Result<()> {
-    say(rt, b" ")?;
+    print!(rt; " ")?;
     match number_of(word) {
         Some(n) => reading_back::say_date(rt, up_to(n, 4294967295) as u32),
-        None => say(rt, b"?"),
+        None => print!(rt; "?"),
     }
 }
 
 fn say_time(rt: &impl Print, text: &[u8]) -> io::Result<()> {
-    say(rt, b" ")?;
+    print!(rt; " ")?;
     reading_back::say_read(rt, text)
 }
 
@@ -42,11 +40,7 @@ fn say_time(rt: &impl Print, text: &[u8]) -> io::Result<()> {
 fn text_at(line: &[u8]) -> usize
     ensures { result ≤ length line.now }
 {
-    let end = word_end(line, 0);
-    if end < line.len() {
-        return end + 1;
-    }
-    end
+    line.len().min(word_end(line, 0) + 1)
 }
 
 fn answer(rt: &impl Print, verb: u8, text: &mut [u8]) -> io::Result<()> {
@@ -56,58 +50,22 @@ fn answer(rt: &impl Print, verb: u8, text: &mut [u8]) -> io::Result<()> {
         b'r' => say_time(rt, text),
         b'c' => trying::say_cuts(rt, text),
         b'a' => trying::say_altered(rt, text),
-        _ => say(rt, b" ?"),
+        _ => print!(rt; " ?"),
     }
 }
 
 fn play(rt: &impl Print, line: &mut [u8]) -> io::Result<()> {
-    say(rt, line)?;
-    if line.len() == 0 {
-        return say(rt, b"\n");
+    rt.write_all(line)?;
+    if line.is_empty() || line[0] == b'#' {
+        return println!(rt);
     }
     let verb = line[0];
-    if verb == b'#' {
-        return say(rt, b"\n");
-    }
     let at = text_at(line);
-    say(rt, b":")?;
+    print!(rt; ":")?;
     answer(rt, verb, &mut line[at..])?;
-    say(rt, b"\n")
-}
-
-fn has_ended(found: Found) -> bool {
-    match found {
-        Found::Line => false,
-        Found::TooLong => false,
-        Found::End => true,
-    }
-}
-
-// A proved loop has to end, and nothing says that the input does: the turns are a number that no run uses up.
-fn play_all(
-    rt: &impl Print,
-    stdin: &mut impl Read,
-    chunk: &mut [u8],
-    line: &mut [u8],
-) -> io::Result<()> {
-    let mut input = input::begin();
-    let mut turns = u64::MAX;
-    while turns > 0 {
-        let next = next_line(stdin, input, chunk, line);
-        let found = next.found;
-        let long = next.long;
-        if has_ended(found) {
-            return Ok(());
-        }
-        play(rt, &mut line[0..long])?;
-        input = next.input;
-        turns -= 1;
-    }
-    Ok(())
+    println!(rt)
 }
 
 fn main(rt: HostRuntime) -> io::Result<()> {
-    let mut chunk = [0u8; 65536];
-    let mut line = [0u8; 4096];
-    play_all(&rt, &mut rt.stdin(), &mut chunk, &mut line)
+    each_line(&mut rt.stdin(), &mut [0; 4096], |_, line| play(&rt, line))
 }
