@@ -75,7 +75,9 @@ module _ (b : Book) (s : Session) (p : Says b s) (long : length s.parts ≡ cell
       let above : number least ≤ part_of (part_head first) (part_site first) =
       least_first q qs (part_head first) (part_site first) low opens in
       let site_small : part_site first < 256 = omega arith in
-      ap₂ Some ((omega (arith, below, above, gives, small, site_small)), (omega (arith, below, above, gives, small, site_small)))
+      let named_by : ℕ → ℕ → Option (ℕ × ℕ) = λ head site. Some (head, site) in
+      ap₂ named_by (omega (arith, below, above, gives, small, site_small))
+      (omega (arith, below, above, gives, small, site_small))
 
 -- ---- 12 is given where a part is open
 
@@ -177,5 +179,5 @@ smallest_told calls slot rec sent bytes twelve =
     ∙ ap (λ (n : ℕ). cond (eqb n 12) (smallest_of ps) None) twelve))
     (smallest_of_lem ps (book_agrees slot calls sent).says.parts.low (λ none. nothing (is ∙ none)))
   where
-    nothing : {head site : ℕ} → Some (head, site) ≡ None → ⊥
+    nothing : {head site : ℕ} → ◌≡◌ {A = Option (ℕ × ℕ)} (Some (head, site)) None → ⊥
     nothing e = let never : ◌≡◌ {A = ℕ} 0 1 = cc in omega arith
