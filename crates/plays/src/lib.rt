@@ -27,67 +27,44 @@ pub struct Played {
 fn told(done: Answered) -> Played
     ensures { result ≡ holds (Reply.Told done.answer) done.house }
 {
-    let answer = done.answer;
-    let house = done.house;
-    let rows = no_rows();
     Played {
-        answer,
+        answer: done.answer,
         free: 0,
         promised: 0,
         count: 0,
         taken: 0,
-        rows,
-        house,
+        rows: no_rows(),
+        house: done.house,
     }
 }
 
 fn read(found: Figures, house: House) -> Played
     ensures { result ≡ holds (Reply.Read found) house }
 {
-    let answer = found.answer;
-    let rows = no_rows();
     Played {
-        answer,
         free: found.free,
         promised: found.promised,
-        count: 0,
-        taken: 0,
-        rows,
-        house,
+        ..told(answer_with(found.answer, house))
     }
 }
 
 fn listed(list: Listing, house: House) -> Played
     ensures { result ≡ listed_as list house }
 {
-    let reported = list.reported;
-    let answer = reported.answer;
-    let rows = list.rows;
+    let Listing { reported, rows } = list;
     Played {
-        answer,
-        free: 0,
-        promised: 0,
         count: reported.rows,
-        taken: 0,
         rows,
-        house,
+        ..told(answer_with(reported.answer, house))
     }
 }
 
 fn fed(done: Fed) -> Played
     ensures { result ≡ fed_as done }
 {
-    let answer = done.answer;
-    let house = done.house;
-    let rows = no_rows();
     Played {
-        answer,
-        free: 0,
-        promised: 0,
-        count: 0,
         taken: done.taken,
-        rows,
-        house,
+        ..told(answer_with(done.answer, done.house))
     }
 }
 

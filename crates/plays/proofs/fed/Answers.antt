@@ -1,9 +1,0 @@
--- `plays::fed` meets its contract: a feed lists no rows.
--- Assumes nothing.
-use Rattle.plays.proofs.fed.Goals as goal
-
-pub returns : goal.returns
-returns c = rw c.no_rows-rows.ensures
-
-pub no_rows-rows-requires : goal.no_rows-rows-requires
-no_rows-rows-requires c = tt
