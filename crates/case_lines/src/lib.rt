@@ -135,21 +135,22 @@ fn play_line<F: FnMut(u8, &[u8]) -> io::Result<()>>(
     }
 }
 
-// Gives the verb and the bytes of each call to `play`, up to the script's end or an error.
+// Gives the verb and the bytes of each call to `play`, up to the script's end or an error. There is room for as many
+// bytes of a call as are lent.
 pub fn play_all<F: FnMut(u8, &[u8]) -> io::Result<()>>(
     rt: &impl Print,
     stdin: &mut impl Read,
+    bytes: &mut [u8],
     mut play: F,
 ) -> io::Result<()>
     requires { (state : F) (verb : _) (part : _) → F.pre state verb part }
 {
     let mut line = [0u8; 4096];
-    let mut bytes = [0u8; 65536];
     each_line(
         stdin,
         &mut line,
         |found, line|
             requires { (state : F) (verb : _) (part : _) → F.pre state verb part }
-        { play_line(rt, found, line, &mut bytes, &mut play) },
+        { play_line(rt, found, line, bytes, &mut play) },
     )
 }

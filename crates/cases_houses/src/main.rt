@@ -52,7 +52,8 @@ fn play(rt: &impl Print, house: House, verb: u8, bytes: &[u8]) -> io::Result<Hou
 
 fn main(rt: HostRuntime) -> io::Result<()> {
     let mut house = House::fresh();
-    play_all(&rt, &mut rt.stdin(), |verb, bytes| {
+    let mut space = [0u8; 4096];
+    play_all(&rt, &mut rt.stdin(), &mut space, |verb, bytes| {
         house = play(&rt, house, verb, bytes)?;
         Ok(())
     })

@@ -66,7 +66,8 @@ fn play(rt: &impl Print, session: Session, verb: u8, bytes: &[u8]) -> io::Result
 
 fn main(rt: HostRuntime) -> io::Result<()> {
     let mut session = Session::begin();
-    play_all(&rt, &mut rt.stdin(), |verb, bytes| {
+    let mut space = [0u8; 65536];
+    play_all(&rt, &mut rt.stdin(), &mut space, |verb, bytes| {
         session = play(&rt, session, verb, bytes)?;
         Ok(())
     })

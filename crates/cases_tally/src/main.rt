@@ -37,9 +37,11 @@ fn play(rt: &impl Print, feed: &mut Feed, verb: u8, bytes: &[u8]) -> io::Result<
 
 fn main(rt: HostRuntime) -> io::Result<()> {
     let mut feed = Feed::start();
+    let mut space = [0u8; 4096];
     play_all(
         &rt,
         &mut rt.stdin(),
+        &mut space,
         |verb, bytes| play(&rt, &mut feed, verb, bytes),
     )
 }
