@@ -1,6 +1,9 @@
 -- The statements of specs/Laws.antt, proved; and what the functions' proofs cite besides.
 -- Assumes nothing.
-use Rattle.std.specs.Prelude.{Option, Some, None}
+use Rattle.std.specs.Prelude.{Option, Some, None, not, position}
+use Rattle.std.specs.Option.{unwrap_or}
+use Rattle.std.specs.Bool.{then_some}
+use Rattle.std.specs.List.{position_or_len}
 use mathlib.Core.Path.{◌≡◌, refl, sym, ap, ◌∙◌}
 use mathlib.Core.Bool.{Bool, true, false, cond, ◌&&◌}
 use mathlib.Core.List.{List, [], ◌∷◌, ◌++◌}
@@ -9,8 +12,8 @@ use Prim.Native.Char.{code}
 use native.Mathlib.Omega.{arith}
 use borrow.Author.Tests.{le-leb, lt-leb, leb-true, ltb-true, ltb-false, eqb-true, ne_eqb}
 use lib.Dec.{eqb, leb, ltb}
-use lib.ListN.{length, get_or, take, drop, length-append}
-use lib.Seq.{drop-cons, take_at}
+use lib.ListN.{length, take, drop, length-append}
+use lib.Seq.{take_at}
 use Rattle.prelude.specs.Choice.{◌unless◌then◌}
 use Rattle.prelude.specs.Each.{each}
 use Rattle.prelude.proofs.Both.{both_left, both_right}
@@ -208,6 +211,10 @@ module _ (m : Moment) (s : List ℕ) where
           pub read_time : same s (date_text t) ≡ true → Some t ≡ read_as m s
           read_time h = rw (read_same, h)
 
+          pub read_told : (b : Bool) → b ≡ same s (date_text t) → then_some b t ≡ read_as m s
+          read_told true e = read_time (sym e)
+          read_told false e = read_other (sym e)
+
 pub read_as_lem : (m : Moment) (s : List ℕ) → m ≡ fields_in s → read_as m s ≡ date_of s
 unfolding date_of
 read_as_lem m s e = ap (λ (x : Moment). read_as x s) e
@@ -363,9 +370,36 @@ put_fits {text} {old} e =
 pub put_front : {text old new : List ℕ} {n : ℕ} → Put text old n new → take n new ≡ text
 put_front {text} {old} {new} {n} e = rw e.laid (take_at text (drop (length text) old) n (sym e.count))
 
--- ---- names compared, at month i
+-- ---- names compared
 
-pub named_on : (i a b c : ℕ) → i < 12
-    → named_in (drop i month_names) a b c
-    ≡ cond (is_named (get_or month_names i []) a b c) 0 (suc (named_in (drop (suc i) month_names) a b c))
-named_on i a b c h = rw (drop-cons month_names i [] h)
+module _ (a b c : ℕ) where
+  abbrev at : List (List ℕ) → ℕ
+  at names = position_or_len (λ name. is_named name a b c) names
+
+  named_at : (names : List (List ℕ)) → named_in names a b c ≡ at names
+  named_at [] = refl
+  named_at (name ∷ names) = go (is_named name a b c) (named_at names)
+    where
+      go : (t : Bool) → named_in names a b c ≡ at names
+          → cond t 0 (suc (named_in names a b c)) ≡ cond (not t) (1 + at names) 0
+      go true e = refl
+      go false e = omega (arith, e)
+
+  named_most : (names : List (List ℕ)) → named_in names a b c ≤ length names
+  named_most [] = omega arith
+  named_most (name ∷ names) = go (is_named name a b c) (named_most names)
+    where
+      go : (t : Bool) → named_in names a b c ≤ length names
+          → cond t 0 (suc (named_in names a b c)) ≤ suc (length names)
+      go true h = omega arith
+      go false h = omega (arith, h)
+
+  pub named_first : (unwrap_or (position (λ name. is_named name a b c) month_names) 12 ≡ month_named a b c)
+      × (month_named a b c ≤ 12)
+  unfolding month_named
+  named_first = (go (ltb (at month_names) 12) refl, named_most month_names)
+    where
+      go : (t : Bool) → ltb (at month_names) 12 ≡ t
+          → unwrap_or (cond t (Some (at month_names)) None) 12 ≡ named_in month_names a b c
+      go true e = sym (named_at month_names)
+      go false e = omega (arith, ltb-false (at month_names) 12 e, named_at month_names, named_most month_names)

@@ -15,20 +15,13 @@ use matching::same_bytes;
 fn byte_at(s: &[u8], i: usize) -> u8
     ensures { result ≡ get_or s.now i 0 }
 {
-    if i < s.len() {
-        return s[i];
-    }
-    0
+    s.get(i).copied().unwrap_or(0)
 }
 
 fn digit_at(s: &[u8], i: usize) -> u32
     ensures { (result ≡ digit_at s.now i) × (result ≤ 255) }
 {
-    let b = byte_at(s, i);
-    if b < b'0' {
-        return 0;
-    }
-    (b - b'0') as u32
+    u32::from(byte_at(s, i).saturating_sub(b'0'))
 }
 
 fn two_at(s: &[u8], i: usize) -> u32
@@ -42,20 +35,14 @@ fn number_at(s: &[u8], i: usize, short: bool) -> u32
     requires { i ≤ 100 }
     ensures { (result ≡ number_at short s.now i) × (result ≤ 2805) }
 {
-    if short {
-        return digit_at(s, i);
-    }
-    two_at(s, i)
+    if short { digit_at(s, i) } else { two_at(s, i) }
 }
 
 fn place_of(short: bool, one: usize, other: usize) -> usize
     requires { (one ≤ 9) × (other ≤ 9) }
     ensures { (result ≡ cond short one other) × (result ≤ 9) }
 {
-    if short {
-        return one;
-    }
-    other
+    if short { one } else { other }
 }
 
 // What stands where a date has its fields.
@@ -76,27 +63,11 @@ fn fields_in(s: &[u8]) -> Moment
     }
 }
 
-// The difference, 0 where there is none.
-fn less(a: u32, b: u32) -> u32
-    ensures { result ≡ a - b }
-{
-    if a < b {
-        return 0;
-    }
-    a - b
-}
-
 fn month_in(m: Moment) -> u32
     requires { Small m }
     ensures { result ≡ month_in m }
 {
-    less(m.year, 1970) * 12 + m.month
-}
-
-fn wide(n: u32) -> u64
-    ensures { result ≡ n }
-{
-    n as u64
+    m.year.saturating_sub(1970) * 12 + m.month
 }
 
 // The seconds that the fields say: more than four bytes hold, where they are no date's.
@@ -104,9 +75,8 @@ fn time_in(m: Moment, month: u32) -> u64
     requires { (month ≡ month_in m) × (month ≤ last_month) × Small m }
     ensures { result ≡ time_of m }
 {
-    let first = wide(months::first_day(month));
-    let day = wide(less(m.day, 1));
-    (first + day) * 86400 + wide(m.hour) * 3600 + wide(m.minute) * 60 + wide(m.second)
+    let days = u64::from(months::first_day(month)) + u64::from(m.day.saturating_sub(1));
+    days * 86400 + u64::from(m.hour) * 3600 + u64::from(m.minute) * 60 + u64::from(m.second)
 }
 
 // Whether a text is the date of a time, to the last byte.
@@ -124,22 +94,13 @@ pub fn read_date(s: &[u8]) -> Option<u32>
 {
     let m = fields_in(s);
     let month = month_in(m);
-    if 1633 < month {
-        return None;
-    }
-    if months::month_length(month) < m.day {
+    if 1633 < month || months::month_length(month) < m.day {
         return None;
     }
     let t = time_in(m, month);
-    if t < 1 {
-        return None;
-    }
-    if 4294967295 < t {
+    if t < 1 || 4294967295 < t {
         return None;
     }
     let time = t as u32;
-    if is_date_of(s, time) {
-        return Some(time);
-    }
-    None
+    is_date_of(s, time).then_some(time)
 }

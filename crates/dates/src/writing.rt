@@ -7,7 +7,7 @@ ghost use Rattle.dates.specs.Dates.{Fits, past_hour, past_day, date_text};
 use crate::names::letter_of;
 use crate::{Moment, moment_of};
 use digits::{put_digits, two_of, width};
-use output::put_part;
+use output::put_bytes;
 
 // What stands behind the hour, `:23:02 `.
 fn past_hour(m: Moment) -> [u8; 7]
@@ -38,7 +38,7 @@ fn put_number(out: &mut [u8], n: u32, bytes: &[u8]) -> usize
     ensures { Put (digits n ++ bytes.now) out.old result out.new }
 {
     let k = put_digits(out, n as u64);
-    k + put_part(&mut out[k..], bytes, 0, bytes.len())
+    k + put_bytes(&mut out[k..], bytes)
 }
 
 // How many bytes the date of a time has.
