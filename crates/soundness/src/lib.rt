@@ -5,6 +5,7 @@
 mod rooms;
 
 ghost use Rattle.std.specs.Prelude.{◌≡◌, true, ◌&&◌, ◌≤◌, ◌<◌, length, take};
+ghost use Rattle.std.specs.Bool.{then_some};
 ghost use Rattle.rising.specs.Rising.{rising};
 ghost use Rattle.rows.specs.Rows.{rows_fit};
 ghost use Rattle.house.specs.House.{taken_of, slot_sound, slots_sound, promised_from, promised, sound, soundness};
@@ -39,10 +40,9 @@ fn slot_sound<'a>(
         && row_tests::sum_is(keys, counts, used, i, st.results)
 }
 
-// What the slots tell: whether each is sound, the rows promised, and which are open.
+// What the slots tell where each is sound: the rows promised, and which are open.
 #[derive(Clone, Copy)]
 struct SlotsTold {
-    sound: bool,
     promised: u64,
     taken: [bool; House::SLOTS],
 }
@@ -53,10 +53,11 @@ fn slots_told<'a>(
     keys: &'a [u64; House::ROWS],
     counts: &'a [u64; House::ROWS],
     used: usize,
-) -> SlotsTold
+) -> Option<SlotsTold>
     requires { Lent keys.now counts.now used }
-    ensures { (result.sound ≡ slots_sound 0 slots (take used keys.now) (take used counts.now))
-        × (result.promised ≡ promised_from 0 slots (take used keys.now)) × (result.taken ≡ taken_of slots)
+    ensures { (result
+        ≡ then_some (slots_sound 0 slots (take used keys.now) (take used counts.now))
+        (record { promised = promised_from 0 slots (take used keys.now); taken = taken_of slots }))
         × (length slots ≡ 16) }
 {
     let mut sound = true;
@@ -68,11 +69,7 @@ fn slots_told<'a>(
         promised += u64::from(unfilled_of(i, s, keys, used));
         taken[i] = s.taken;
     }
-    SlotsTold {
-        sound,
-        promised,
-        taken,
-    }
+    sound.then_some(SlotsTold { promised, taken })
 }
 
 // The rows in use fit and rise.
@@ -100,8 +97,8 @@ pub fn soundness_lent<'a>(
     if House::ROWS < used || !rows_rise(keys, counts, used) {
         return None;
     }
-    let told = slots_told(slots, keys, counts, used);
-    if !told.sound || !row_tests::rows_open(&told.taken, keys, used) {
+    let told = slots_told(slots, keys, counts, used)?;
+    if !row_tests::rows_open(&told.taken, keys, used) {
         return None;
     }
     let free = (House::ROWS - used) as u64;

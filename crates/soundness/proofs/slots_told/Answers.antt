@@ -7,7 +7,7 @@ use native.Mathlib.Omega.{arith}
 use lib.ListN.{length, length-set, length-map, take, drop}
 use lib.Seq.{take_all}
 use Rattle.house.specs.declared.Slot.{Slot}
-use Rattle.house.specs.House.{no_slot, taken_of, slots_sound}
+use Rattle.house.specs.House.{no_slot, taken_of, slots_sound, promised_from}
 use Rattle.house.proofs.Laws.{slots_on, slots_done, promised_on, promised_none, taken_on}
 use Rattle.soundness.proofs.slots_told.Goals as goal
 
@@ -44,10 +44,12 @@ returns c =
     let counts = take a.used a.counts.now in
     let i = c.loop-i.i in
     let so = c.loop-i.invariant in
-    let all : i ≡ 16 = omega arith in (
-      sym (so.sound ∙ rw (slots_done a.slots keys counts i no_slot (omega (arith, so.sixteen))) (and-true c.loop-i.sound)),
-      omega (arith, so.promised, promised_none a.slots keys i no_slot (omega (arith, so.sixteen))),
-      sym (take_all 16 c.loop-i.taken (omega (arith, so.cells))) ∙ (rw all at so.taken)
-          ∙ take_all 16 (taken_of a.slots) (omega (arith, so.sixteen, length-map a.slots (λ (s : Slot). s.taken))),
-      so.sixteen,
-    )
+    let all : i ≡ 16 = omega arith in
+    let sound : slots_sound 0 a.slots keys counts ≡ c.loop-i.sound =
+    so.sound ∙ rw (slots_done a.slots keys counts i no_slot (omega (arith, so.sixteen))) (and-true c.loop-i.sound) in
+    let promised : promised_from 0 a.slots keys ≡ c.loop-i.promised =
+    omega (arith, so.promised, promised_none a.slots keys i no_slot (omega (arith, so.sixteen))) in
+    let taken : c.loop-i.taken ≡ taken_of a.slots =
+    sym (take_all 16 c.loop-i.taken (omega (arith, so.cells))) ∙ (rw all at so.taken)
+    ∙ take_all 16 (taken_of a.slots) (omega (arith, so.sixteen, length-map a.slots (λ (s : Slot). s.taken))) in
+    (c.then_some.ensures ∙ rw (sound, promised, taken), so.sixteen)
