@@ -27,7 +27,7 @@ use Rattle.settling.proofs.Laws.{changed_stands}
 use Rattle.judging.specs.Judge.{judge}
 use Rattle.house.specs.declared.Room.{Room}
 use Rattle.house.specs.House.{row_count}
-use Rattle.house.specs.Deliver.{granted, rowed, row_taken, core, outcome, told, session_of, resulted_if, settled}
+use Rattle.house.specs.Deliver.{granted, rowed, row_taken, outcome, told, session_of, resulted_if, settled}
 use Rattle.house.specs.Deliver.{delivered, Core, cell_of, noted, guessed, past_counts, LentRows}
 use Rattle.house.proofs.Laws.{lent_kept}
 

@@ -4,7 +4,7 @@ use mathlib.Core.Path.{◌≡◌, refl, sym, ◌∙◌}
 use Rattle.std.specs.Prelude.{Option, Some, None}
 use mathlib.Core.Bool.{Bool, true, false, ◌&&◌, and-true, and-false}
 use mathlib.Core.List.{List}
-use Prim.Native.Nat.{ℕ, ◌+◌, ◌-◌, ◌≤◌, ◌<◌}
+use Prim.Native.Nat.{ℕ, ◌+◌, ◌≤◌, ◌<◌}
 use native.Mathlib.Numerals.{add-one}
 use native.Mathlib.Omega.{arith}
 use borrow.Author.Tests.{le-leb, lt-leb}
@@ -13,7 +13,7 @@ use lib.ListN.{length, get_or, take, drop, set, drop_of_length-le, length-map, g
 use lib.Seq.{drop-cons, take-suc-set, take-suc}
 use Rattle.prelude.proofs.Both.{both_left, both_right}
 use Rattle.rising.specs.Rising.{rising}
-use Rattle.rows.specs.Rows.{held_by, rows_right, rows_open, rows_fit, Kept}
+use Rattle.rows.specs.Rows.{rows_right, rows_open, rows_fit, Kept}
 use Rattle.rows.proofs.Laws.{right_apart}
 use Rattle.house.specs.declared.Slot.{Slot}
 use Rattle.house.specs.declared.House.{House}
@@ -22,20 +22,6 @@ use Rattle.house.specs.House.{taken_of, rows_sound, slot_sound, slots_sound, sou
 use Rattle.house.specs.House.{Lent}
 
 -- ---- rows promised
-
-module _ (i : ℕ) (s : Slot) (keys : List ℕ) where
-  pub unfilled_closed : s.taken ≡ false → unfilled i s keys ≡ 0
-  unfolding unfilled
-  unfilled_closed e = rw e
-
-  module _ (open_there : s.taken ≡ true) (held : ℕ) (is : held ≡ held_by i keys) where
-    pub unfilled_none : s.floor < held → unfilled i s keys ≡ 0
-    unfolding unfilled
-    unfilled_none h = rw (open_there, ← is) (omega arith)
-
-    pub unfilled_some : held ≤ s.floor → unfilled i s keys ≡ s.floor - held
-    unfolding unfilled
-    unfilled_some h = rw (open_there, ← is)
 
 module _ (slots : List Slot) (keys : List ℕ) (i : ℕ) (none : Slot) where
   pub promised_on : i < length slots

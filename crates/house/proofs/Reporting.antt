@@ -6,7 +6,7 @@ use mathlib.Core.Bool.{Bool, true, false, cond, false≢true}
 use mathlib.Core.List.{List, [], ◌∷◌, ◌++◌}
 use Prim.Native.Nat.{ℕ, zero, suc, ◌+◌, ◌≤◌, ◌<◌, min}
 use native.Mathlib.Omega.{arith}
-use borrow.Author.Tests.{le-leb, lt-leb, leb-true, lt-ltb, le-ltb, ltb-true, ltb-false}
+use borrow.Author.Tests.{le-leb, lt-leb, leb-true, lt-ltb, ltb-true, ltb-false}
 use lib.Dec.{ltb}
 use lib.ListN.{length, get_or, set, drop, length-append, length-set, length-take}
 use lib.Seq.{get_or-take, get_or-set_same, get_or-set_other, length-take-le, drop-cons, set_at, append_snoc}
@@ -15,7 +15,7 @@ use Rattle.prelude.specs.Checks.{tests}
 use Rattle.prelude.proofs.All.{all_at}
 use Rattle.prelude.proofs.Both.{both_left}
 use Rattle.prelude.proofs.Checks.{checked_by}
-use Rattle.answers.specs.declared.Answer.TheVariants.{Done, NoSuchSlot, SlotClosed, NotSound, OutputTooShort}
+use Rattle.answers.specs.declared.Answer.TheVariants.{Done, OutputTooShort}
 use Rattle.rising.specs.Rising.{rising}
 use Rattle.rows.specs.Rows.{slot_count, slot_of, held_by, sum_by, rows_right, slot_rank}
 use Rattle.rows.proofs.Laws.{held_ranks, held_within, run_end, run_own, run_within, count_within}
@@ -33,28 +33,15 @@ use Rattle.house.proofs.Calling.{OpenSlot, slot_told, told_within, told_rows, Is
 -- ---- the answers
 
 module _ (h : House) (slot long : ℕ) where
-  pub report_unsound : sound h ≡ false → reported h slot long ≡ unreported NotSound
-  unfolding reported
-  report_unsound e = rw e
-
-  module _ (fine : sound h ≡ true) where
-    pub report_no_slot : slot_count ≤ slot → reported h slot long ≡ unreported NoSuchSlot
+  module _ (fine : sound h ≡ true) (there : slot < slot_count) (opened : (slot_at h slot).taken ≡ true) (n : ℕ)
+      (is : n ≡ held_by slot (keys_of h)) where
+    pub report_short : long < n → reported h slot long ≡ unreported OutputTooShort
     unfolding reported
-    report_no_slot e = rw (fine, le-ltb slot slot_count e)
+    report_short e = rw (fine, lt-ltb slot slot_count there, opened, ← is, lt-leb n long e)
 
-    module _ (there : slot < slot_count) where
-      pub report_closed : (slot_at h slot).taken ≡ false → reported h slot long ≡ unreported SlotClosed
-      unfolding reported
-      report_closed e = rw (fine, lt-ltb slot slot_count there, e)
-
-      module _ (opened : (slot_at h slot).taken ≡ true) (n : ℕ) (is : n ≡ held_by slot (keys_of h)) where
-        pub report_short : long < n → reported h slot long ≡ unreported OutputTooShort
-        unfolding reported
-        report_short e = rw (fine, lt-ltb slot slot_count there, opened, ← is, lt-leb n long e)
-
-        pub report_done : n ≤ long → reported h slot long ≡ record { answer = Done; rows = n }
-        unfolding reported
-        report_done e = rw (fine, lt-ltb slot slot_count there, opened, ← is, le-leb n long e)
+    pub report_done : n ≤ long → reported h slot long ≡ record { answer = Done; rows = n }
+    unfolding reported
+    report_done e = rw (fine, lt-ltb slot slot_count there, opened, ← is, le-leb n long e)
 
 -- ---- a sound house
 
