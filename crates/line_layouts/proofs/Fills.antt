@@ -11,18 +11,10 @@ use lib.Dec.{eqb, ltb}
 use lib.ListN.{length, get_or, take, drop, set, replicate, length-append, length-take, length-drop}
 use lib.ListN.{get_or-eq_default}
 use lib.Seq.{take_all, take-suc-set, get_or-set_same, get_or-set_other, get_or-take, get_or-drop, ext_get_or}
+use Rattle.std.proofs.lemmas.List.{map-append}
 use Rattle.line_layouts.specs.declared.Said.{Said}
 use Rattle.line_layouts.specs.Columns.{most_columns}
 use Rattle.line_layouts.specs.Entries.{Entry, entry_of, no_field, no_fields, padded, Within}
-
-pub map_append : (f : Said → Entry) (xs ys : List Said) → map f (xs ++ ys) ≡ map f xs ++ map f ys
-map_append f [] ys = refl
-map_append f (x ∷ xs) ys = ap (λ (l : List Entry). f x ∷ l) (map_append f xs ys)
-
-pub map_take : (f : Said → Entry) (n : ℕ) (xs : List Said) → take n (map f xs) ≡ map f (take n xs)
-map_take f zero xs = refl
-map_take f (suc n) [] = refl
-map_take f (suc n) (x ∷ xs) = ap (λ (l : List Entry). f x ∷ l) (map_take f n xs)
 
 -- ---- fields that are missing
 
@@ -107,4 +99,4 @@ module _ (s : List ℕ) where
 
     -- one field more
     pub says_more : map says (take (j + 1) (set fs j f)) ≡ map says (take j fs) ++ says f ∷ []
-    says_more = rw (add-one j, take-suc-set fs j f h) (map_append says (take j fs) (f ∷ []))
+    says_more = rw (add-one j, take-suc-set fs j f h) (map-append says (take j fs) (f ∷ []))

@@ -8,7 +8,7 @@ use native.Mathlib.Numerals.{add-one}
 use native.Mathlib.Omega.{arith}
 use borrow.Author.Tests.{eq-eqb, ne_eqb}
 use lib.Dec.{eqb}
-use lib.ListN.{length, get_or, take, drop, length-append, length-take, length-drop, drop_of_length-le}
+use lib.ListN.{length, get_or, take, drop, length-append, length-take, length-drop, drop_of_length-le, get_or-map}
 use lib.Seq.{drop-cons, get_or-take, length-take-le, take-suc, take_all}
 use Rattle.numbers.specs.declared.Order.{Order}
 use Rattle.numbers.specs.Numbers.{ordered, written, over}
@@ -16,6 +16,7 @@ use Rattle.numbers.proofs.Laws.{length_written}
 use Rattle.output.specs.Placed.{Put}
 use Rattle.output.proofs.Laws.{length_part}
 use Rattle.values.specs.declared.Name.{Name}
+use Rattle.std.proofs.lemmas.List.{length-map}
 use Rattle.line_layouts.specs.declared.Tag.{Tag}
 use Rattle.line_layouts.specs.declared.Tag.TheVariants.{Pcr, Hbr, Sbr, Wir, Wrr}
 use Rattle.line_layouts.specs.declared.Said.{Said}
@@ -92,18 +93,6 @@ pub marked_size : (sep : ℕ) (form : Form) (e : Entry) (last : Bool) {r : ℕ} 
 marked_size sep form e last is = omega (arith, length-append (entry_text form e) (mark sep last ∷ []))
 
 -- ---- field number j
-
-module _ (f : Said → Entry) where
-  get_d_map : (l : List Said) (j : ℕ)
-      → get_or (map f l) j (f said.Missing) ≡ f (get_or l j no_field)
-  get_d_map [] zero = refl
-  get_d_map [] (suc j) = refl
-  get_d_map (x ∷ l) zero = refl
-  get_d_map (x ∷ l) (suc j) = get_d_map l j
-
-length_map : (f : Said → Entry) (l : List Said) → length (map f l) ≡ length l
-length_map f [] = refl
-length_map f (x ∷ l) = ap suc (length_map f l)
 
 pub most_columns_lem : (tag : Tag) → length (columns tag) ≤ most_columns
 most_columns_lem Pcr = omega arith
@@ -195,14 +184,14 @@ module _ (source : List ℕ) (line : Line) (full : length line.fields ≡ most_c
   said_at j h =
       get_or-take (length (columns line.tag)) (map (entry_of source) line.fields) j
       Missing h
-      ∙ get_d_map (entry_of source) line.fields j
+      ∙ get_or-map (entry_of source) line.fields j no_field
 
   pub length_entries : length (entries_of source line) ≡ length (columns line.tag)
   length_entries =
       length-take-le (length (columns line.tag)) (map (entry_of source) line.fields)
       (omega (
         arith,
-        length_map (entry_of source) line.fields,
+        length-map line.fields (entry_of source),
         full,
         most_columns_lem line.tag,
       ))

@@ -65,7 +65,8 @@ pub struct Line {
     pub fields: [Said; MOST_COLUMNS],
 }
 
-// How fields are laid out: as the text of a line, with a byte between them, or as a record in a byte order.
+// How fields are laid out: as the text of a line, with a byte between them, or as a record in a byte order. An enum, and
+// not a trait: `laid_out` and the laws of both are stated once, over either.
 #[derive(Clone, Copy)]
 pub enum Layout {
     Text(u8),

@@ -18,7 +18,8 @@ use Rattle.line_layouts.specs.Entries.{Entry, Meaning, padded}
 use Rattle.line_layouts.specs.Fitting.{is_number, table_sound}
 use Rattle.line_layouts.specs.Judging.{Faulty, Says, saying, Taken, Held}
 use Rattle.line_layouts.proofs.Tables.{sound, sane, rest_sound}
-use Rattle.line_layouts.proofs.Fills.{map_take, says, Withins}
+use Rattle.std.proofs.lemmas.List.{take-map}
+use Rattle.line_layouts.proofs.Fills.{says, Withins}
 use Rattle.line_records.specs.Walks.{Fits, meant}
 use Rattle.line_records.specs.Records.{count_tag, body_means, tagged_means, meaning}
 use Rattle.line_records.specs.Places.{fields_from, line_at}
@@ -51,7 +52,7 @@ taken_said : (ends : Order) (tag : Tag) (s : List ℕ) (fields : List Said) (n :
     → Taken s (body_means tag (meant ends tag s)) (saying (record { tag = tag; fields = fields }))
 taken_said ends tag s fields n all full within is =
     let said : take (length (columns tag)) (map (says s) fields) ≡ map (says s) (take n fields) =
-    rw (← all) (map_take (says s) n fields) in
+    rw (← all) (take-map (says s) n fields) in
     record {
       means = rw is (ap (λ (es : List Entry). Says (record { tag = tag; entries = es })) said);
       there = record { full = full; within = within };

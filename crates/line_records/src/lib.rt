@@ -33,8 +33,6 @@ pub fn judge_record(order: Order, record: &[u8]) -> Result<Line, Answer>
     if !frames::is_record(order, record) {
         return Err(Answer::NotOneRecord);
     }
-    match count_tag(kinds::kind_of(record[2], record[3])) {
-        Some(tag) => walking::walk(order, tag, &record[4..]),
-        None => Err(Answer::UnknownKind),
-    }
+    let tag = count_tag(kinds::kind_of(record[2], record[3])).ok_or(Answer::UnknownKind)?;
+    walking::walk(order, tag, &record[4..])
 }

@@ -18,7 +18,8 @@ use Rattle.line_layouts.specs.Entries.{Entry, named, meaning_of, no_field, no_fi
 use Rattle.line_layouts.proofs.Arranging.{length_arranged, arranged_in, arranged_at, arranged_same, map_arranged}
 use Rattle.line_layouts.proofs.Tables.{turned}
 use Rattle.line_layouts.proofs.Laid.{most_columns_lem, back_inside}
-use Rattle.line_layouts.proofs.Fills.{map_take, padded_at, length_padded, stored_all, says, Withins}
+use Rattle.std.proofs.lemmas.List.{take-map}
+use Rattle.line_layouts.proofs.Fills.{padded_at, length_padded, stored_all, says, Withins}
 use Rattle.line_texts.specs.Pieces.{split, gathered, entry_in, entries_in}
 use Rattle.line_texts.specs.Places.{no_place, places_from, places_of, places_in, said_in, fields_in, line_in}
 use Rattle.line_texts.specs.Places.{short, CutInto}
@@ -162,7 +163,7 @@ module _ (sep : ℕ) (s : List ℕ) (tag : Tag) where
     unfolding line_in
     line_means =
         ap (λ (l : List Entry). record { tag = tag; entries = l })
-        (map_take (says s) (length (columns tag)) (padded fields)
+        (take-map (says s) (length (columns tag)) (padded fields)
         ∙ ap (map (says s)) (take_at fields (drop (length fields) no_fields) (length (columns tag)) length_all)
         ∙ fields_say s (columns tag) (places_in sep s tag) (short_columns tag) (placed_in s sep long tag)
         ∙ ap (entries_in (columns tag)) (named_in s sep long tag))

@@ -78,9 +78,7 @@ fn judge_fields(s: &[u8], sep: u8, tag: Tag) -> Result<Line, Answer>
     ensures { result ≡ held_by (line_in sep s.now tag)
         (fields_mean sep tag (split sep (drop 4 s.now))) }
 {
-    let Some(places) = cut(s, sep, tag) else {
-        return Err(Answer::NotACountLine);
-    };
+    let places = cut(s, sep, tag).ok_or(Answer::NotACountLine)?;
     if !fields_fit(s, sep, tag, places) {
         return Err(Answer::NotACountLine);
     }
@@ -98,8 +96,6 @@ pub fn judge_content(s: &[u8], sep: u8) -> Result<Line, Answer>
     if !is_unbroken(s) {
         return Err(Answer::NotACountLine);
     }
-    match tag_of(s) {
-        Some(tag) => judge_fields(s, sep, tag),
-        None => Err(Answer::NotACountLine),
-    }
+    let tag = tag_of(s).ok_or(Answer::NotACountLine)?;
+    judge_fields(s, sep, tag)
 }

@@ -151,6 +151,7 @@ fn number_said(form: Form, text: &[u8], most: u32) -> Said
     requires { number_fits most (numeral_in form text.now) ≡ true }
     ensures { result ≡ number_said (numeral_in form text.now) }
 {
+    // A match: of the `n` of a closure it is not told that it is at most `most`, so that the cast fits.
     match numeral_in(form, text) {
         Some(n) => Said::Number(n as u32),
         None => Said::Missing,

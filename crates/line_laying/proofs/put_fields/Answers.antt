@@ -1,12 +1,11 @@
 -- `line_laying::put_fields` meets its contract: the fields passed are put, and the rest is to come.
 -- Assumes nothing.
-use mathlib.Core.List.{List, [], ◌++◌}
-use Prim.Native.Nat.{◌+◌, ◌≤◌}
+use mathlib.Core.List.{[], ◌++◌}
+use Prim.Native.Nat.{◌+◌}
 use native.Mathlib.Omega.{arith}
-use lib.ListN.{length}
 use Rattle.line_layouts.specs.Layouts.{nth_bytes, rest_of}
 use Rattle.line_layouts.proofs.Laid.{rest_on, rest_ends}
-use Rattle.line_laying.proofs.Sofar.{sofar_first, sofar_inside, sofar_room, sofar_on, sofar_done}
+use Rattle.line_laying.proofs.Sofar.{sofar_first, sofar_room, sofar_on, sofar_done}
 use Rattle.line_laying.proofs.put_fields.Goals as goal
 
 pub loop-j-init : goal.loop-j-init

@@ -5,10 +5,12 @@ use mathlib.Core.Bool.{true}
 use Prim.Native.Nat.{◌≤◌}
 use native.Mathlib.Omega.{arith}
 use lib.ListN.{length}
+use Rattle.std.specs.Prelude.{Some, None}
 use Rattle.prelude.proofs.Parts.{part_from}
 use Rattle.answers.specs.declared.Answer.TheVariants.{NotOneRecord, UnknownKind}
 use Rattle.frames.specs.Frames.{body, is_record}
 use Rattle.frames.proofs.Laws.{record_header}
+use Rattle.line_layouts.specs.Judging.{refusing}
 use Rattle.line_layouts.proofs.Faults.{held_refused}
 use Rattle.line_records.specs.Records.{meaning}
 use Rattle.line_records.specs.Places.{record_line}
@@ -59,22 +61,26 @@ slice_bounds-walk-start c =
     is in
     whole
 
-pub returns-in-Some : goal.returns-in-Some
+pub returns : goal.returns
 unfolding record_line
-returns-in-Some c =
+returns c =
     let is : is_record c.args.order c.args.«record».now ≡ true =
     sym c.is_record.ensures ∙ c.if-not-is_record.false in
     let a = c.args in
     let s = a.«record».now in
-    let tagged = rw c.kind_of.ensures at (sym c.count_tag.ensures ∙ c.in-Some.is) in
+    let told : c.count_tag.result ≡ Some c.in_ok-tag.tag = grind arith in
+    let tagged = rw c.kind_of.ensures at (sym c.count_tag.ensures ∙ told) in
     rw (meaning_tagged a.order s is, tagged) (rw (part_from s 4) at c.walk.ensures)
 
-pub returns-in-None : goal.returns-in-None
-returns-in-None c =
+pub returns-in_err-tag : goal.returns-in_err-tag
+returns-in_err-tag c =
     let is : is_record c.args.order c.args.«record».now ≡ true =
     sym c.is_record.ensures ∙ c.if-not-is_record.false in
     let a = c.args in
     let s = a.«record».now in
-    let tagged = rw c.kind_of.ensures at (sym c.count_tag.ensures ∙ c.in-None.is) in
-    held_refused (body s) (record_line a.order s) (meaning a.order s) UnknownKind
-    (rw (meaning_tagged a.order s is, tagged))
+    let told : c.count_tag.result ≡ None = grind arith in
+    let tagged = rw c.kind_of.ensures at (sym c.count_tag.ensures ∙ told) in
+    let e : c.from_residual.result ≡ refusing UnknownKind = grind arith in
+    rw e
+    (held_refused (body s) (record_line a.order s) (meaning a.order s) UnknownKind
+    (rw (meaning_tagged a.order s is, tagged)))

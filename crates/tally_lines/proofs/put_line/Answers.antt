@@ -1,6 +1,6 @@
 -- `tally_lines::put_line` meets its contract: the tag, then the four numbers; numbers of such widths have room.
 -- Assumes nothing.
-use Prim.Native.Nat.{ℕ, ◌≤◌}
+use Prim.Native.Nat.{◌≤◌}
 use native.Mathlib.Omega.{arith}
 use lib.ListN.{length}
 use Rattle.output.specs.Placed.{Room}

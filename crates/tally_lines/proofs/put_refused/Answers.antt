@@ -1,8 +1,6 @@
 -- `tally_lines::put_refused` meets its contract: its number, then the record's, then the ending.
 -- Assumes nothing.
 use mathlib.Core.Path.{◌≡◌}
-use mathlib.Core.List.{List}
-use Prim.Native.Nat.{ℕ, ◌<◌, ◌≤◌}
 use native.Mathlib.Omega.{arith}
 use Rattle.output.proofs.Laws.{first}
 use Rattle.output.specs.Placed.{Room}

@@ -1,6 +1,6 @@
 -- `line_layouts::names::part_allowed` meets its contract: what `all` answers is the test of each byte.
 -- Assumes nothing.
-use Rattle.std.proofs.Common.{◌∙◌, refl, rules, tests, true, ◌&&◌}
+use Rattle.std.proofs.Common.{◌∙◌, refl, rules, tests, ◌&&◌}
 use Rattle.std.proofs.lemmas.Iterator.{YieldsList-from_slice}
 use Rattle.std.proofs.lemmas.Iterator.Search.{all_from_yields_List}
 use Rattle.std.proofs.lemmas.List.Recursion.{same_from_clauses}

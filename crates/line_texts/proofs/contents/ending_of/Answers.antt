@@ -2,7 +2,6 @@
 -- Assumes nothing.
 use mathlib.Core.Path.{sym}
 use native.Mathlib.Omega.{arith}
-use lib.ListN.{length}
 use Rattle.line_texts.proofs.Whole.{ending_both, ending_alone, ending_feed, ending_return, ending_none, ending_empty}
 use Rattle.line_texts.proofs.contents.ending_of.Goals as goal
 

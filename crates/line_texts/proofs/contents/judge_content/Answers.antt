@@ -2,6 +2,10 @@
 -- Assumes nothing.
 use mathlib.Core.Path.{◌≡◌, sym, ◌∙◌}
 use mathlib.Core.Bool.{true}
+use native.Mathlib.Omega.{arith}
+use Rattle.std.specs.Prelude.{Some, None}
+use Rattle.answers.specs.declared.Answer.TheVariants.{NotACountLine}
+use Rattle.line_layouts.specs.Judging.{refusing}
 use Rattle.line_texts.specs.Texts.{unbroken}
 use Rattle.line_texts.specs.Places.{content_held}
 use Rattle.line_texts.proofs.Whole.{content_broken, content_tagged, tag_four}
@@ -16,24 +20,26 @@ returns-then-not-is_unbroken c =
 
 pub judge_fields-requires : goal.judge_fields-requires
 judge_fields-requires c =
-    tag_four c.args.s.now
-    c.in-Some.tag (sym c.tag_of.ensures ∙ c.in-Some.is)
+    let told : c.tag_of.result ≡ Some c.in_ok-tag.tag = grind arith in
+    tag_four c.args.s.now c.in_ok-tag.tag (sym c.tag_of.ensures ∙ told)
 
-pub returns-in-Some : goal.returns-in-Some
+pub returns : goal.returns
 unfolding content_held
-returns-in-Some c =
+returns c =
     let whole : unbroken c.args.s.now ≡ true =
     sym c.is_unbroken.ensures ∙ c.if-not-is_unbroken.false in
     let a = c.args in
-    let tagged = sym c.tag_of.ensures ∙ c.in-Some.is in
-    rw (content_tagged a.sep a.s.now whole, tagged)
-    c.judge_fields.ensures
+    let told : c.tag_of.result ≡ Some c.in_ok-tag.tag = grind arith in
+    let tagged = sym c.tag_of.ensures ∙ told in
+    rw (content_tagged a.sep a.s.now whole, tagged) c.judge_fields.ensures
 
-pub returns-in-None : goal.returns-in-None
+pub returns-in_err-tag : goal.returns-in_err-tag
 unfolding content_held
-returns-in-None c =
+returns-in_err-tag c =
     let whole : unbroken c.args.s.now ≡ true =
     sym c.is_unbroken.ensures ∙ c.if-not-is_unbroken.false in
     let a = c.args in
-    let tagged = sym c.tag_of.ensures ∙ c.in-None.is in
-    rw (content_tagged a.sep a.s.now whole, tagged)
+    let told : c.tag_of.result ≡ None = grind arith in
+    let tagged = sym c.tag_of.ensures ∙ told in
+    let e : c.from_residual.result ≡ refusing NotACountLine = grind arith in
+    rw (e, content_tagged a.sep a.s.now whole, tagged)

@@ -1,10 +1,10 @@
 -- `line_texts::pieces::piece_end` meets its contract: what `position` answers is where the first separator stands.
 -- Assumes nothing.
-use Rattle.std.proofs.Common.{◌≡◌, ℕ, ◌+◌, ◌≤◌, length, drop, eqb, sym, rules, tests, arith}
+use Rattle.std.proofs.Common.{ℕ, drop, eqb, rules, tests}
 use Rattle.std.proofs.lemmas.Iterator.{YieldsList-from_slice}
 use Rattle.std.proofs.lemmas.Iterator.Search.{position_from_yields_List}
 use Rattle.prelude.proofs.Parts.{part_from}
-use Rattle.line_texts.proofs.Cuts.{stop, stop_is, stop_none, piece_ends, piece_last}
+use Rattle.line_texts.proofs.Cuts.{stop_is, stop_none, piece_ends, piece_last}
 use Rattle.line_texts.proofs.pieces.piece_end.Goals as goal
 
 pub returns-in-Some : goal.returns-in-Some
