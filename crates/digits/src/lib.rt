@@ -83,6 +83,7 @@ pub fn width(n: u32) -> usize
     let wide = n as u64;
     let mut count: usize = 1;
     let mut power: u64 = 10;
+    // No `for`: it ends at a power, and not at a count.
     while power <= wide {
         count += 1;
         power *= 10;

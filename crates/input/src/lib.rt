@@ -29,7 +29,8 @@ pub enum Found {
     End,
 }
 
-// What was found, and where the input stands behind it.
+// What was found, and where the input stands behind it. `long` stands beside it, whatever was found: it says how much of
+// the line is lent on.
 #[derive(Clone, Copy)]
 pub struct Next {
     pub input: Input,

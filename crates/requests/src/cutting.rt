@@ -28,7 +28,8 @@ fn no_call() -> Found
     }
 }
 
-// The fourth word behind the verb starts at `from`.
+// The fourth word behind the verb starts at `from`. One function for each number of words, here and in asking: a list of
+// words would be an array of slices with a count beside it, filled up with empty ones.
 fn cut_fourth(line: &[u8], verb: Verb, order: &[u8], at: &[u8], long: &[u8], from: usize) -> Found
     requires { from ≤ length line.now }
     ensures { Finds line.now verb (order.now ∷ at.now ∷ long.now
