@@ -80,6 +80,7 @@ fn time_in(m: Moment, month: u32) -> u64
 }
 
 // Whether a text is the date of a time, to the last byte.
+#[tactic(auto, using(crate::proofs::Laws::date_size))]
 fn is_date_of(s: &[u8], t: u32) -> bool
     ensures { result ≡ same s.now (date_text t) }
 {
