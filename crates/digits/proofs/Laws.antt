@@ -139,14 +139,6 @@ pub is_digit_lem : (b : ℕ) → 48 ≤ b → b ≤ 57 → is_digit b ≡ true
 unfolding is_digit
 is_digit_lem b h g = rw (le-leb 48 b h, le-leb b 57 g)
 
-pub is_low : (b : ℕ) → b < 48 → is_digit b ≡ false
-unfolding is_digit
-is_low b h = rw (lt-leb 48 b h)
-
-pub is_high : (b : ℕ) → 48 ≤ b → is_digit b ≡ leb b 57
-unfolding is_digit
-is_high b h = rw (le-leb 48 b h)
-
 pub digit_least : (b : ℕ) → is_digit b ≡ true → 48 ≤ b
 unfolding is_digit
 digit_least b e = leb-true 48 b (both_left (leb 48 b) (leb b 57) e)
