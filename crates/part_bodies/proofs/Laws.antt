@@ -5,7 +5,7 @@ use mathlib.Core.Bool.{true, ◌&&◌}
 use mathlib.Core.List.{List, [], ◌∷◌}
 use Prim.Native.Nat.{ℕ, ◌≤◌, ◌<◌}
 use native.Mathlib.Omega.{arith}
-use borrow.Author.Tests.{le-leb, leb-true, eqb-false, not-true}
+use borrow.Author.Tests.{le-leb, leb-true, ne_eqb, eqb-false, not-true}
 use lib.Dec.{eqb}
 use lib.ListN.{length, get_or, drop, length-drop}
 use lib.Seq.{drop-drop}
@@ -20,8 +20,15 @@ use Rattle.part_bodies.specs.Laws.{PirSaidRight, PrrSaidRight}
 
 -- ---- fields
 
+pub pir_fits : (order : Order) (b : List ℕ) → fits_body order pir b ≡ eqb (length b) 2
+pir_fits order [] = refl
+pir_fits order (x ∷ []) = refl
+pir_fits order (x ∷ y ∷ []) = refl
+pir_fits order (x ∷ y ∷ z ∷ rest) =
+    rw (le-leb 2 (length (x ∷ y ∷ z ∷ rest)) (omega arith), ne_eqb (length (x ∷ y ∷ z ∷ rest)) 2 (omega arith))
+
 module _ (order : Order) (b : List ℕ) where
-  prr_behind : 7 ≤ length b → fits_body order prr b ≡ ends_among order prr.optional (drop 7 b)
+  pub prr_behind : 7 ≤ length b → fits_body order prr b ≡ ends_among order prr.optional (drop 7 b)
   prr_behind h = rw (le-leb 7 (length b) h)
 
   -- where the soft bin, X, Y and the time are there, those behind them tell

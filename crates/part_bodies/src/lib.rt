@@ -5,7 +5,7 @@ ghost use Rattle.std.specs.Prelude.{◌≡◌, ◌≤◌, length, if◌then◌el
 ghost use Rattle.fields.specs.Tables.{fits_body, prr};
 ghost use Rattle.part_bodies.specs.Parts.{pir_of, prr_of, prr_values_fit, pir_body_fits, prr_body_fits};
 
-use fields::{PIR, PRR, ends_among, fits_table};
+use fields::{PRR, ends_among};
 use numbers::Order;
 use values::{ALL_SITES, MOST_BIN, soft_bin_fits, u2_at};
 
@@ -23,11 +23,12 @@ pub struct Prr {
     pub bin: u16,
 }
 
-// What a PIR's body says, where it fits, its head too.
+// What a PIR's body says, where it fits, its head too. Its fields are 2 bytes, and none is optional.
+#[tactic(auto, using(crate::proofs::Laws::pir_fits))]
 pub fn read_pir(order: Order, body: &[u8]) -> Option<Pir>
     ensures { result ≡ (if pir_body_fits order body.now then Some (pir_of body.now) else None) }
 {
-    if !(fits_table(order, body, &PIR, 2) && body[0] != ALL_SITES) {
+    if body.len() != 2 || body[0] == ALL_SITES {
         return None;
     }
     Some(Pir {
@@ -41,10 +42,14 @@ pub fn read_pir(order: Order, body: &[u8]) -> Option<Pir>
 fn prr_fields_fit(order: Order, body: &[u8]) -> bool
     ensures { result ≡ fits_body order prr body.now }
 {
-    if body.len() < 17 {
-        return fits_table(order, body, &PRR, 5);
+    if body.len() < 7 {
+        return false;
     }
-    ends_among(order, &PRR[9..], &body[17..])
+    if body.len() < 17 {
+        ends_among(order, &PRR[5..], &body[7..])
+    } else {
+        ends_among(order, &PRR[9..], &body[17..])
+    }
 }
 
 fn prr_values_fit(order: Order, body: &[u8]) -> bool
