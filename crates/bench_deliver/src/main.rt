@@ -11,25 +11,22 @@ use order::Place;
 use session::Session;
 use std::io;
 use std::io::Read;
-use transcript::{say, say_answer, say_number};
 
 const TURNS: u64 = 50000;
 
 fn held() -> House {
-    let standing = standing(Place::Body, 0, false, 1000);
-    let session = Session {
-        standing,
-        parts: [0u64; 40],
-    };
     let mut h = House::fresh();
     h.slots[0] = Slot {
         taken: true,
         floor: 1024,
-        session,
+        session: Session {
+            standing: standing(Place::Body, 0, false, 1000),
+            parts: [0; 40],
+        },
         held: 0,
     };
     h.keys = rising_keys();
-    h.counts = [1u64; 1024];
+    h.counts = [1; House::ROWS];
     h.used = 1000;
     h
 }
@@ -38,34 +35,22 @@ fn held() -> House {
 fn deliver_all(house: House, recs: &[u8], split: usize) -> House
     requires { split ≤ length recs.now }
 {
-    let first = &recs[0..split];
+    let first = &recs[..split];
     let second = &recs[split..];
     let mut h = house;
-    let mut turns = TURNS;
-    while turns > 0 {
-        let one = deliveries::deliver(h, 0, first);
-        h = one.house;
-        let two = deliveries::deliver(h, 0, second);
-        h = two.house;
-        turns -= 1;
+    for _ in 0..TURNS {
+        h = deliveries::deliver(h, 0, first).house;
+        h = deliveries::deliver(h, 0, second).house;
     }
     h
 }
 
 fn has_input(stdin: &mut impl Read) -> bool {
-    let mut some = [0u8; 1];
-    let got = stdin.read(&mut some).unwrap_or(0);
-    got > 0
+    stdin.read(&mut [0]).unwrap_or(0) > 0
 }
 
 fn say_figures(rt: &impl Print, found: Figures) -> io::Result<()> {
-    let answer = found.answer;
-    say_answer(rt, answer)?;
-    say(rt, b" ")?;
-    say_number(rt, found.free as u64)?;
-    say(rt, b" ")?;
-    say_number(rt, found.promised as u64)?;
-    say(rt, b"\n")
+    println!(rt; "{} {} {}", found.answer, found.free, found.promised)
 }
 
 fn main(rt: HostRuntime) -> io::Result<()> {

@@ -6,13 +6,13 @@ ghost use Rattle.std.specs.Prelude.{◌≡◌, ◌+◌, ◌≤◌, ◌<◌, leng
 ghost use Rattle.house.specs.Deliver.{core};
 ghost use Rattle.house.specs.Laws.{Lending};
 
+use answers::Answer;
 use house::Room;
 use lent::deliver_lent;
 use numbers::Order;
 use order::Place;
 use session::Standing;
 use std::io;
-use transcript::{say, say_number};
 
 // Records: ten thousand times 1,024 pairs.
 const TURNS: u64 = 20480000;
@@ -23,12 +23,6 @@ struct Ran {
     accepted: u64,
     used: usize,
     results: u32,
-}
-
-fn wide(x: u8) -> usize
-    ensures { result < 256 }
-{
-    x as usize
 }
 
 // A PIR and a PRR, 6 and 11 bytes, for one key: head 1, one of 32 sites, one of 32 bins.
@@ -46,11 +40,8 @@ fn pairs() -> [u8; 17408]
     ensures { length result ≡ 17408 }
 {
     let mut s = [0u8; 17408];
-    let mut i: usize = 0;
-    while i < 17408 {
-        let p = pair(i / 17 * 389 % 1024);
-        s[i] = p[i % 17];
-        i += 1;
+    for i in 0..1024 {
+        s[17 * i..17 * i + 17].copy_from_slice(&pair(i * 389 % 1024));
     }
     s
 }
@@ -60,11 +51,7 @@ fn end_of(stream: &[u8], at: usize) -> usize
     requires { at < length stream.now }
     ensures { (at ≤ result) × (result ≤ length stream.now) }
 {
-    let n = wide(stream[at]) + 4;
-    if stream.len() - at < n {
-        return stream.len();
-    }
-    at + n
+    stream.len().min(at + usize::from(stream[at]) + 4)
 }
 
 // Delivers so many records, from the start of the stream again when it ends, to a session that has no row yet.
@@ -81,12 +68,11 @@ fn follow(
     requires lending { Lending room (core keys.old counts.old 0 st parts.old) 1 }
     requires turns_bound { (turns < 4294967295) × (0 < length stream.now) }
 {
-    let mut used: usize = 0;
+    let mut used = 0;
     let mut standing = st;
-    let mut accepted: u64 = 0;
-    let mut at: usize = 0;
-    let mut turn: u64 = 0;
-    while turn < turns {
+    let mut accepted = 0;
+    let mut at = 0;
+    for turn in 0..turns {
         let end = end_of(stream, at);
         let d = deliver_lent(
             keys,
@@ -98,18 +84,12 @@ fn follow(
             parts,
             &stream[at..end],
         );
-        let answer = d.answer;
-        if answers::number(answer) == 0 {
+        if d.answer == Answer::Done {
             accepted += 1;
         }
-        let next = d.standing;
-        standing = next;
+        standing = d.standing;
         used = d.used;
-        at = end;
-        if stream.len() <= at {
-            at = 0;
-        }
-        turn += 1;
+        at = if stream.len() <= end { 0 } else { end };
     }
     Ran {
         accepted,
@@ -151,10 +131,5 @@ fn run() -> Ran {
 
 fn main(rt: HostRuntime) -> io::Result<()> {
     let r = run();
-    say_number(&rt, r.accepted)?;
-    say(&rt, b" ")?;
-    say_number(&rt, r.used as u64)?;
-    say(&rt, b" ")?;
-    say_number(&rt, r.results as u64)?;
-    say(&rt, b"\n")
+    println!(rt; "{} {} {}", r.accepted, r.used, r.results)
 }

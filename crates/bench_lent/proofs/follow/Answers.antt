@@ -7,10 +7,10 @@ use Rattle.house.specs.Deliver.{Outcome, core}
 use Rattle.house.specs.Laws.{Lending}
 use Rattle.house.proofs.Lending.{lending_core, lending_kept}
 use Rattle.bench_lent.proofs.follow.Goals as goal
-use Rattle.bench_lent.proofs.follow.Goals.{then-number-eq0, else-number-eq0, then-stream-at, else-stream-at}
+use Rattle.bench_lent.proofs.follow.Goals.{then-eq, else-eq}
 
 pub loop-turn-init : goal.loop-turn-init
-loop-turn-init c = (c.requires.lending, omega arith, omega arith, omega arith)
+loop-turn-init c = (c.requires.lending, omega arith, omega arith)
 
 pub deliver_lent-d-requires : goal.deliver_lent-d-requires
 deliver_lent-d-requires c = lending_core _ _ _ c.loop-turn.invariant.0
@@ -26,7 +26,6 @@ loop-turn-preserved c =
     let range = part_bytes stream at (c.end_of-end.result - at) bytes in
     let kept = lending_kept room _ most _ range (omega arith) (omega arith) c.loop-turn.invariant.0 in (
       rw (← more) (subst (λ (o : Outcome). Lending room o.core (most + 1)) (sym c.deliver_lent-d.ensures.0) kept),
-      elim c.if-number-eq0.branch [ then-number-eq0 w ↦ omega (arith, w.accepted-is) | else-number-eq0 w ↦ omega (arith, w.accepted-is) ],
-      elim c.if-stream-at.branch [ then-stream-at w ↦ omega (arith, w.at-is) | else-stream-at w ↦ omega (arith, w.at-is) ],
+      elim c.if-eq.branch [ then-eq w ↦ omega (arith, w.accepted-is) | else-eq w ↦ omega (arith, w.accepted-is) ],
       omega arith,
     )
