@@ -131,6 +131,8 @@ fn result_lent(
 
 // What a verdict on a record does to the rows and the session of one slot: who has judged settles here, and judges no
 // second time. Guesses may be any numbers, and any number of them.
+// Slices, here and in walking and pouring, and not a struct that lends them all: for each `&mut` in it, every contract
+// would have to say besides that it is the same one after the call.
 pub fn settle_lent(
     keys: &mut [u64],
     counts: &mut [u64],
