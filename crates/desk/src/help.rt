@@ -1,11 +1,9 @@
 // The calls, for an operator. Each line begins with `#`: where a transcript is read again, it is a comment.
 use std::io;
-use transcript::say;
 
 pub(crate) fn say_help(rt: &impl Print) -> io::Result<()> {
-    say(
-        rt,
-        b"# fresh                        0\n\
+    rt.print(
+        "# fresh                        0\n\
         # open SLOT FLOOR              N\n\
         # deliver SLOT HEX             N, or: 12 HEAD SITE\n\
         # report SLOT LENGTH           N, or: 0 COUNT H/S/B=C H/S/B=C ..\n\
