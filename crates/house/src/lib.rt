@@ -12,7 +12,8 @@ use answers::Answer;
 use session::{Session, Standing};
 
 // A slot: closed, or a session with its floor. `held` is how many bytes of its stream wait in the carry that the session
-// lends (#102): they go with the carry, and no record is judged by them.
+// lends (#102): they go with the carry, and no record is judged by them. `taken` stands beside the rest, and no Option
+// around it: a closed slot that holds something is a house's, too, and not sound (`closed_conditions`).
 #[derive(Clone, Copy)]
 pub struct Slot {
     pub taken: bool,
@@ -21,7 +22,8 @@ pub struct Slot {
     pub held: usize,
 }
 
-// The rows in use stand first in both arrays, their keys rising: slot, head, site and bin in one number.
+// The rows in use stand first in both arrays, their keys rising: slot, head, site and bin in one number. Two arrays, and
+// none of pairs: keys are searched and tested without their counts. Memory is fixed, so how many are in use is a number.
 #[derive(Clone, Copy)]
 pub struct House {
     pub keys: [u64; House::ROWS],
