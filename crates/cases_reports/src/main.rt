@@ -12,7 +12,6 @@ use order::Place;
 use reports::report;
 use session::Session;
 use std::io;
-use transcript::{say, say_answer, say_number};
 
 // A slice of two rows after a report, and what the report answered.
 #[derive(Clone, Copy)]
@@ -21,7 +20,7 @@ struct Pair {
     rows: [Row; 2],
 }
 
-// Lends both rows. To lend a slice of structs has to be proved by hand, so nothing else is done here.
+// Lends both rows.
 fn lend_pair(rows: [Row; 2], house: House, slot: u32) -> Pair
     ensures { (result.reported ≡ reported house slot 2)
         × (result.rows ≡ filled (row_at house slot) result.reported.rows rows) }
@@ -36,15 +35,13 @@ fn lend_pair(rows: [Row; 2], house: House, slot: u32) -> Pair
 
 // An open slot in the body of its stream, with no part open.
 fn open(results: u32) -> Slot {
-    let parts = [0u64; 40];
-    let session = Session {
-        standing: standing(Place::Body, 0, false, results),
-        parts,
-    };
     Slot {
         taken: true,
         floor: 0,
-        session,
+        session: Session {
+            standing: standing(Place::Body, 0, false, results),
+            parts: [0; 40],
+        },
         held: 0,
     }
 }
@@ -73,45 +70,31 @@ fn house_of(used: usize) -> House {
     h
 }
 
-fn say_row(rt: &impl Print, row: Row) -> io::Result<()> {
-    say(rt, b" ")?;
-    say_number(rt, row.head as u64)?;
-    say(rt, b"/")?;
-    say_number(rt, row.site as u64)?;
-    say(rt, b"/")?;
-    say_number(rt, row.bin as u64)?;
-    say(rt, b"=")?;
-    say_number(rt, row.count as u64)
-}
-
-fn line(rt: &impl Print, name: &[u8], h: House, slot: u32) -> io::Result<()> {
+fn line(rt: &impl Print, name: &str, h: House, slot: u32) -> io::Result<()> {
     let old = Row {
         head: 9,
         site: 9,
         bin: 9,
         count: 9,
     };
-    let pair = lend_pair([old; 2], h, slot);
-    let reported = pair.reported;
-    let answer = reported.answer;
-    say(rt, name)?;
-    say_answer(rt, answer)?;
-    say(rt, b", rows ")?;
-    say_number(rt, reported.rows as u64)?;
-    say(rt, b":")?;
-    say_row(rt, pair.rows[0])?;
-    say_row(rt, pair.rows[1])?;
-    say(rt, b"\n")
+    let Pair {
+        reported,
+        rows: [first, second],
+    } = lend_pair([old; 2], h, slot);
+    println!(rt;
+        "{name}: {}, rows {}: {first} {second}",
+        reported.answer, reported.rows
+    )
 }
 
 // With five rows in use slot 2 has accepted six PRRs and holds no row: that house isn't sound.
 fn main(rt: HostRuntime) -> io::Result<()> {
     let h = house_of(6);
-    line(&rt, b"three rows: ", h, 0)?;
-    line(&rt, b"two rows: ", h, 1)?;
-    line(&rt, b"one row: ", h, 2)?;
-    line(&rt, b"no rows: ", h, 3)?;
-    line(&rt, b"closed slot: ", h, 4)?;
-    line(&rt, b"slot 16: ", h, 16)?;
-    line(&rt, b"house not sound: ", house_of(5), 1)
+    line(&rt, "three rows", h, 0)?;
+    line(&rt, "two rows", h, 1)?;
+    line(&rt, "one row", h, 2)?;
+    line(&rt, "no rows", h, 3)?;
+    line(&rt, "closed slot", h, 4)?;
+    line(&rt, "slot 16", h, 16)?;
+    line(&rt, "house not sound", house_of(5), 1)
 }
