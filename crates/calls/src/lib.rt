@@ -8,7 +8,7 @@ ghost use Rattle.house.specs.Calls.{open_slot, close_slot, figures_of, answered}
 
 use answers::Answer;
 use house::{Answered, Figures, House, Slot};
-use soundness::{is_sound, soundness_of};
+use soundness::{open_at, soundness_of};
 
 // What every call of a house gives back, a delivery too.
 pub fn answer_with(answer: Answer, house: House) -> Answered
@@ -67,18 +67,11 @@ pub fn figures(house: House) -> Figures
 pub fn close_slot(house: House, slot: u32) -> Answered
     ensures { result ≡ close_slot house slot }
 {
-    if !is_sound(house) {
-        return answer_with(Answer::NotSound, house);
-    }
-    let i = slot as usize;
-    if House::SLOTS <= i {
-        return answer_with(Answer::NoSuchSlot, house);
-    }
+    let (i, _) = match open_at(&house, slot) {
+        Ok(open) => open,
+        Err(answer) => return answer_with(answer, house),
+    };
     let mut h = house;
-    let s = h.slots[i];
-    if !s.taken {
-        return answer_with(Answer::SlotClosed, h);
-    }
     h.used = rows::drop_slot(&mut h.keys, &mut h.counts, h.used, i);
     h.slots[i] = Slot::closed();
     answer_with(Answer::Done, h)
