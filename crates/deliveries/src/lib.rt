@@ -16,23 +16,17 @@ use judging::judge_lent;
 use lent::settle_lent;
 use session::{Session, Verdict};
 use settling::settle;
-use soundness::{room_of, soundness_lent};
+use soundness::{open_at, room_of};
 
 // Delivers one record to a slot.
 pub fn deliver(house: House, slot: u32, rec: &[u8]) -> Answered
     ensures { result ≡ deliver house slot rec.now }
 {
-    let Some(owed) = soundness_lent(house.slots, &house.keys, &house.counts, house.used) else {
-        return answer_with(Answer::NotSound, house);
+    let (i, owed) = match open_at(&house, slot) {
+        Ok(open) => open,
+        Err(answer) => return answer_with(answer, house),
     };
-    let i = slot as usize;
-    if House::SLOTS <= i {
-        return answer_with(Answer::NoSuchSlot, house);
-    }
     let s = house.slots[i];
-    if !s.taken {
-        return answer_with(Answer::SlotClosed, house);
-    }
     settle_to(house, owed, i, s, judge_slot(s, rec))
 }
 
