@@ -6,7 +6,7 @@ use mathlib.Core.Bool.{true, false, true≢false}
 use mathlib.Core.List.{List, [], ◌++◌}
 use Prim.Native.Nat.{ℕ, ◌≤◌, ◌<◌}
 use native.Mathlib.Omega.{arith}
-use borrow.Author.Tests.{lt-ltb, le-ltb, eq-eqb, ne_eqb}
+use borrow.Author.Tests.{lt-ltb, eq-eqb, ne_eqb}
 use lib.ListN.{length, set, take}
 use lib.Seq.{get_or-set_same, set-set, length-take-le}
 use Rattle.prelude.specs.All.{all}
@@ -41,66 +41,36 @@ pub unfed_told : (h : House) (slot : ℕ) (carry : List ℕ) {f : Fed} {a : Answ
     → fed_with f (held_in f.house slot carry) ≡ unfed h (held_in h slot carry) a
 unfed_told h slot carry is = ap (λ (f : Fed). fed_with f (held_in f.house slot carry)) is
 
-module _ (h : House) (slot : ℕ) (carry chunk : List ℕ) where
-  abbrev unfed_as : Answer → Feed
-  unfed_as a = unfed h (held_in h slot carry) a
-
-  pub feed_unsound : sound h ≡ false → unfed_as answer.NotSound ≡ feed h slot carry chunk
+module _ (h : House) (slot : ℕ) (carry chunk : List ℕ) (e : sound h ≡ true) (inside : slot < slot_count)
+    (t : (slot_at h slot).taken ≡ true) where
+  pub feed_other : (length carry ≡ carry_length → ⊥)
+      → unfed h (held_in h slot carry) answer.OutputTooShort ≡ feed h slot carry chunk
   unfolding feed
-  feed_unsound e = rw e
+  feed_other g = rw (e, lt-ltb slot slot_count inside, t, ne_eqb (length carry) carry_length g)
 
-  module _ (e : sound h ≡ true) where
-    pub feed_no_slot : slot_count ≤ slot → unfed_as answer.NoSuchSlot ≡ feed h slot carry chunk
-    unfolding feed
-    feed_no_slot g = rw (e, le-ltb slot slot_count g)
+  -- .. and where all checks hold
+  pub feed_done_lem : length carry ≡ carry_length
+      → fed_to h slot (held_in h slot carry) chunk ≡ feed h slot carry chunk
+  unfolding feed
+  feed_done_lem g = rw (e, lt-ltb slot slot_count inside, t, eq-eqb (length carry) carry_length g)
 
-    module _ (inside : slot < slot_count) where
-      pub feed_shut : (slot_at h slot).taken ≡ false → unfed_as answer.SlotClosed ≡ feed h slot carry chunk
-      unfolding feed
-      feed_shut t = rw (e, lt-ltb slot slot_count inside, t)
-
-      module _ (t : (slot_at h slot).taken ≡ true) where
-        pub feed_other : (length carry ≡ carry_length → ⊥) → unfed_as answer.OutputTooShort ≡ feed h slot carry chunk
-        unfolding feed
-        feed_other g = rw (e, lt-ltb slot slot_count inside, t, ne_eqb (length carry) carry_length g)
-
-        -- .. and where all checks hold
-        pub feed_done_lem : length carry ≡ carry_length
-            → fed_to h slot (held_in h slot carry) chunk ≡ feed h slot carry chunk
-        unfolding feed
-        feed_done_lem g = rw (e, lt-ltb slot slot_count inside, t, eq-eqb (length carry) carry_length g)
-
-        pub feed_touched : length carry ≡ carry_length → (new : List ℕ) → Unfed h slot carry new
-        feed_touched g new failed =
-            let all_hold : all (tests (feed_checks h slot (length carry))) ≡ true
-            = rw (e, lt-ltb slot slot_count inside, t, eq-eqb (length carry) carry_length g) in
-            absurd (true≢false (sym all_hold ∙ failed))
+  pub feed_touched : length carry ≡ carry_length → (new : List ℕ) → Unfed h slot carry new
+  feed_touched g new failed =
+      let all_hold : all (tests (feed_checks h slot (length carry))) ≡ true
+      = rw (e, lt-ltb slot slot_count inside, t, eq-eqb (length carry) carry_length g) in
+      absurd (true≢false (sym all_hold ∙ failed))
 
 -- ---- the end of feeding
 
-module _ (h : House) (slot : ℕ) where
-  pub end_unsound : sound h ≡ false → answer.NotSound ≡ end_feed h slot
-  unfolding end_feed
-  end_unsound e = rw e
-
-  module _ (e : sound h ≡ true) where
-    pub end_no_slot : slot_count ≤ slot → answer.NoSuchSlot ≡ end_feed h slot
+module _ (h : House) (slot : ℕ) (e : sound h ≡ true) (inside : slot < slot_count) (t : (slot_at h slot).taken ≡ true)
+  where
+    pub end_held : ((slot_at h slot).held ≡ 0 → ⊥) → answer.NotOneRecord ≡ end_feed h slot
     unfolding end_feed
-    end_no_slot g = rw (e, le-ltb slot slot_count g)
+    end_held g = rw (e, lt-ltb slot slot_count inside, t, ne_eqb (slot_at h slot).held 0 g)
 
-    module _ (inside : slot < slot_count) where
-      pub end_shut : (slot_at h slot).taken ≡ false → answer.SlotClosed ≡ end_feed h slot
-      unfolding end_feed
-      end_shut t = rw (e, lt-ltb slot slot_count inside, t)
-
-      module _ (t : (slot_at h slot).taken ≡ true) where
-        pub end_held : ((slot_at h slot).held ≡ 0 → ⊥) → answer.NotOneRecord ≡ end_feed h slot
-        unfolding end_feed
-        end_held g = rw (e, lt-ltb slot slot_count inside, t, ne_eqb (slot_at h slot).held 0 g)
-
-        pub end_done : (slot_at h slot).held ≡ 0 → answer.Done ≡ end_feed h slot
-        unfolding end_feed
-        end_done g = rw (e, lt-ltb slot slot_count inside, t, eq-eqb (slot_at h slot).held 0 g)
+    pub end_done : (slot_at h slot).held ≡ 0 → answer.Done ≡ end_feed h slot
+    unfolding end_feed
+    end_done g = rw (e, lt-ltb slot slot_count inside, t, eq-eqb (slot_at h slot).held 0 g)
 
 -- ---- what the slot lends
 

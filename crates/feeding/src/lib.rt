@@ -11,7 +11,7 @@ use answers::Answer;
 use house::{Fed, House, Slot};
 use pouring::{Pour, answer_of, pour_all};
 use session::Session;
-use soundness::{is_sound, room_of, soundness_lent};
+use soundness::{open_at, room_of};
 
 fn fed(answer: Answer, taken: usize, house: House) -> Fed
     ensures { result ≡ record { answer = answer; taken = taken; house = house } }
@@ -88,17 +88,11 @@ pub fn feed(house: House, slot: u32, carry: &mut [u8], chunk: &[u8]) -> Fed
         ≡ feed house slot carry.old chunk.now }
     ensures kept { Unfed house slot carry.old carry.new }
 {
-    let Some(owed) = soundness_lent(house.slots, &house.keys, &house.counts, house.used) else {
-        return fed(Answer::NotSound, 0, house);
+    let (i, owed) = match open_at(&house, slot) {
+        Ok(open) => open,
+        Err(answer) => return fed(answer, 0, house),
     };
-    let i = slot as usize;
-    if House::SLOTS <= i {
-        return fed(Answer::NoSuchSlot, 0, house);
-    }
     let s = house.slots[i];
-    if !s.taken {
-        return fed(Answer::SlotClosed, 0, house);
-    }
     if carry.len() != House::CARRY {
         return fed(Answer::OutputTooShort, 0, house);
     }
@@ -110,18 +104,11 @@ pub fn feed(house: House, slot: u32, carry: &mut [u8], chunk: &[u8]) -> Fed
 pub fn end_feed(house: House, slot: u32) -> Answer
     ensures { result ≡ end_feed house slot }
 {
-    if !is_sound(house) {
-        return Answer::NotSound;
-    }
-    let i = slot as usize;
-    if House::SLOTS <= i {
-        return Answer::NoSuchSlot;
-    }
-    let s = house.slots[i];
-    if !s.taken {
-        return Answer::SlotClosed;
-    }
-    if s.held != 0 {
+    let (i, _) = match open_at(&house, slot) {
+        Ok(open) => open,
+        Err(answer) => return answer,
+    };
+    if house.slots[i].held != 0 {
         return Answer::NotOneRecord;
     }
     Answer::Done
