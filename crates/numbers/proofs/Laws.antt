@@ -84,12 +84,6 @@ front_part w k s =
     ap (front w 0) (part_from s k) ∙ front_drop_from w k 0 s
     ∙ rw (add-zero k)
 
-pub front_is : (w : ℕ) (s : List ℕ) → w ≤ length s → take w s ≡ front w 0 s
-front_is zero s h = refl
-front_is (suc w) [] h = absurd (omega arith)
-front_is (suc w) (b ∷ bs) h =
-    ap (λ (l : List ℕ). b ∷ l) (front_is w bs (omega arith) ∙ front_drop_from w 1 0 (b ∷ bs))
-
 -- past the end of a part there is 0
 pub part_bytes : PartBytes
 part_bytes s at n low k = go (ltb k n) refl
