@@ -247,33 +247,19 @@ module _ (h : House) (slot floor : ℕ) where
 
 -- ---- close
 
-module _ (h : House) (slot : ℕ) where
-  pub close_unsound : sound h ≡ false → close_slot h slot ≡ answered answer.NotSound h
+module _ (h : House) (slot : ℕ) (e : sound h ≡ true) (inside : slot < slot_count) where
+  pub close_done : (slot_at h slot).taken ≡ true → (ks cs : List ℕ) (n : ℕ) (s : Slot)
+      → rows ks cs n ≡ slot_dropped h.keys h.counts h.used slot → s ≡ closed_slot
+      → close_slot h slot
+      ≡ answered answer.Done (record { keys = ks; counts = cs; used = n; slots = set h.slots slot s })
   unfolding close_slot
-  close_unsound e = rw e
-
-  module _ (e : sound h ≡ true) where
-    pub close_no_slot : slot_count ≤ slot → close_slot h slot ≡ answered answer.NoSuchSlot h
-    unfolding close_slot
-    close_no_slot g = rw (e, le-ltb slot slot_count g)
-
-    module _ (inside : slot < slot_count) where
-      pub close_shut : (slot_at h slot).taken ≡ false → close_slot h slot ≡ answered answer.SlotClosed h
-      unfolding close_slot
-      close_shut t = rw (e, lt-ltb slot slot_count inside, t)
-
-      pub close_done : (slot_at h slot).taken ≡ true → (ks cs : List ℕ) (n : ℕ) (s : Slot)
-          → rows ks cs n ≡ slot_dropped h.keys h.counts h.used slot → s ≡ closed_slot
-          → close_slot h slot
-          ≡ answered answer.Done (record { keys = ks; counts = cs; used = n; slots = set h.slots slot s })
-      unfolding close_slot
-      close_done t ks cs n s is shut =
-          rw (e, lt-ltb slot slot_count inside, t, shut)
-          (ap
-          (λ (r : Rows).
-          answered answer.Done
-          (record { keys = r.keys; counts = r.counts; used = r.used; slots = set h.slots slot closed_slot }))
-          (sym is))
+  close_done t ks cs n s is shut =
+      rw (e, lt-ltb slot slot_count inside, t, shut)
+      (ap
+      (λ (r : Rows).
+      answered answer.Done
+      (record { keys = r.keys; counts = r.counts; used = r.used; slots = set h.slots slot closed_slot }))
+      (sym is))
 
 -- ---- deliver
 
