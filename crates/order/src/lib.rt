@@ -60,6 +60,9 @@ pub fn next_place(place: Place, kind: Kind) -> Option<Place>
         Kind::Rdr => by_place(out, out, setup, out, out, place),
         Kind::Sdr => by_place(out, out, setup, setup, out, place),
         Kind::Mrr => by_place(out, out, ended, ended, ended, place),
+        // Told apart from the rest: joined with it they took a record of either a twentieth more instructions (bench_lent).
+        Kind::Pir => by_place(out, out, body, body, body, place),
+        Kind::Prr => by_place(out, out, body, body, body, place),
         _ => by_place(out, out, body, body, body, place),
     }
 }
