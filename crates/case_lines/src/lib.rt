@@ -100,6 +100,9 @@ fn take_call(rt: &impl Print, line: &mut [u8], out: &mut [u8]) -> io::Result<Opt
     };
     let end = word_end(line, at);
     let bytes = lay_words(rt, line, end + 1, out)?;
+    if verb == 0 {
+        return Ok(None); // a NUL is no verb's letter
+    }
     Ok(Some(Call { verb, bytes }))
 }
 

@@ -1,5 +1,5 @@
-// What a report and the figures are written as.
-use crate::{Figures, Row};
+// A row of a report, as transcripts write it.
+use crate::Row;
 use std::fmt;
 
 impl fmt::Display for Row {

@@ -1,6 +1,6 @@
 // Lines of standard input, one after another, over two lent buffers: a chunk as it was read, and the line that is put
 // together from chunks. A line longer than its buffer is passed over. No contract can say what is read; how a chunk is
-// cut and where its bytes go is promised.
+// cut and where its bytes go is promised. `each_line` has a chunk of its own, and is lent the line alone.
 #![tactic(auto)]
 
 mod each;
