@@ -32,14 +32,12 @@ pub struct Bin {
     pub name: Option<Name>,
 }
 
-// What a PCR's body says, where it fits.
-pub fn read_pcr(order: Order, body: &[u8]) -> Option<Pcr>
-    ensures { result ≡ (if fits_body order pcr body.now then Some (pcr_of order body.now) else None) }
+// What a PCR's body says that has its required fields.
+pub fn pcr_of(order: Order, body: &[u8]) -> Pcr
+    requires { 6 ≤ length body.now }
+    ensures { result ≡ pcr_of order body.now }
 {
-    if !fits_table(order, body, &PCR, 3) {
-        return None;
-    }
-    Some(Pcr {
+    Pcr {
         head: body[0],
         site: body[1],
         parts: u4_at(order, body, 2),
@@ -47,7 +45,17 @@ pub fn read_pcr(order: Order, body: &[u8]) -> Option<Pcr>
         abort: count_at(order, body, 10),
         good: count_at(order, body, 14),
         functional: count_at(order, body, 18),
-    })
+    }
+}
+
+// .. where it fits.
+pub fn read_pcr(order: Order, body: &[u8]) -> Option<Pcr>
+    ensures { result ≡ (if fits_body order pcr body.now then Some (pcr_of order body.now) else None) }
+{
+    if !fits_table(order, body, &PCR, 3) {
+        return None;
+    }
+    Some(pcr_of(order, body))
 }
 
 // The values that an HBR's or SBR's required fields and its P/F have.
@@ -58,14 +66,12 @@ fn bin_values_fit(order: Order, body: &[u8]) -> bool
     u2_at(order, body, 2) <= MOST_BIN && pass_fail_fits(body, 8)
 }
 
-// What an HBR's or SBR's body says, where it fits, its values too.
-pub fn read_bin(soft: bool, order: Order, body: &[u8]) -> Option<Bin>
-    ensures { result ≡ (if bin_body_fits order body.now then Some (bin_count_of soft order body.now) else None) }
+// What an HBR's or SBR's body says that has its required fields.
+pub fn bin_count_of(soft: bool, order: Order, body: &[u8]) -> Bin
+    requires { 8 ≤ length body.now }
+    ensures { result ≡ bin_count_of soft order body.now }
 {
-    if !(fits_table(order, body, &BIN, 4) && bin_values_fit(order, body)) {
-        return None;
-    }
-    Some(Bin {
+    Bin {
         soft,
         head: body[0],
         site: body[1],
@@ -73,5 +79,15 @@ pub fn read_bin(soft: bool, order: Order, body: &[u8]) -> Option<Bin>
         count: u4_at(order, body, 4),
         pf: pass_fail_at(body, 8),
         name: name_at(body, 9),
-    })
+    }
+}
+
+// .. where it fits, its values too.
+pub fn read_bin(soft: bool, order: Order, body: &[u8]) -> Option<Bin>
+    ensures { result ≡ (if bin_body_fits order body.now then Some (bin_count_of soft order body.now) else None) }
+{
+    if !(fits_table(order, body, &BIN, 4) && bin_values_fit(order, body)) {
+        return None;
+    }
+    Some(bin_count_of(soft, order, body))
 }

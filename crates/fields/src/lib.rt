@@ -1,5 +1,5 @@
-// How a body is made of fields: document 01, "Record frame and kinds", bodies read. One table for each body but a PIR's,
-// which is two bytes, in the order of its bytes, and one walk for all of them.
+// How a body is made of fields: document 01, "Record frame and kinds", bodies read. One table for each body, in the order
+// of its bytes, and one walk for all of them.
 #![tactic(auto)]
 
 ghost use Rattle.std.specs.Prelude.{◌≡◌, ◌≤◌, length};
@@ -52,6 +52,9 @@ pub static PCR: [FieldType; 7] = [U1, U1, U4, U4, U4, U4, U4];
 
 // head, site, bin, count, bar, P/F, name: HBR and SBR alike
 pub static BIN: [FieldType; 6] = [U1, U1, U2, U4, C1, CN];
+
+// head, site
+pub static PIR: [FieldType; 2] = [U1, U1];
 
 // head, site, PART_FLG, tests, hard bin, bar, soft bin, X, Y, time, id, text, fix
 pub static PRR: [FieldType; 12] = [U1, U1, B1, U2, U2, U2, I2, I2, U4, CN, CN, BN];

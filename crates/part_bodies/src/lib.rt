@@ -23,7 +23,18 @@ pub struct Prr {
     pub bin: u16,
 }
 
-// What a PIR's body says, where it fits, its head too. Its fields are 2 bytes, and none is optional.
+// What a PIR's body says that has its fields.
+pub fn pir_of(body: &[u8]) -> Pir
+    requires { 2 ≤ length body.now }
+    ensures { result ≡ pir_of body.now }
+{
+    Pir {
+        head: body[0],
+        site: body[1],
+    }
+}
+
+// .. where it fits, its head too. Its fields are 2 bytes, and none is optional.
 #[tactic(auto, using(crate::proofs::Laws::pir_fits))]
 pub fn read_pir(order: Order, body: &[u8]) -> Option<Pir>
     ensures { result ≡ (if pir_body_fits order body.now then Some (pir_of body.now) else None) }
@@ -31,10 +42,7 @@ pub fn read_pir(order: Order, body: &[u8]) -> Option<Pir>
     if body.len() != 2 || body[0] == ALL_SITES {
         return None;
     }
-    Some(Pir {
-        head: body[0],
-        site: body[1],
-    })
+    Some(pir_of(body))
 }
 
 // The required fields are 7 bytes, and with the four optional ones behind them 17: where these are there, only those
@@ -62,17 +70,25 @@ fn prr_values_fit(order: Order, body: &[u8]) -> bool
         && soft_bin_fits(order, body, 7)
 }
 
-// What a PRR's body says, where it fits, its values too.
+// What a PRR's body says that has its required fields.
+pub fn prr_of(order: Order, body: &[u8]) -> Prr
+    requires { 7 ≤ length body.now }
+    ensures { result ≡ prr_of order body.now }
+{
+    Prr {
+        head: body[0],
+        site: body[1],
+        flags: body[2],
+        bin: u2_at(order, body, 5),
+    }
+}
+
+// .. where it fits, its values too.
 pub fn read_prr(order: Order, body: &[u8]) -> Option<Prr>
     ensures { result ≡ (if prr_body_fits order body.now then Some (prr_of order body.now) else None) }
 {
     if !(prr_fields_fit(order, body) && prr_values_fit(order, body)) {
         return None;
     }
-    Some(Prr {
-        head: body[0],
-        site: body[1],
-        flags: body[2],
-        bin: u2_at(order, body, 5),
-    })
+    Some(prr_of(order, body))
 }
