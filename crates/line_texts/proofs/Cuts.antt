@@ -9,18 +9,20 @@ use native.Mathlib.Omega.{arith}
 use borrow.Author.Tests.{ltb-true, ltb-false, lt-ltb, le-ltb, lt-leb, le-leb}
 use lib.Dec.{eqb, leb, ltb}
 use lib.ListN.{length, get_or, take, drop, length-drop, drop_of_length-le}
-use lib.Seq.{drop-cons, drop-drop}
+use lib.Seq.{drop-cons, drop-drop, get_or-take}
 use Rattle.std.specs.Prelude.{Option, Some, None}
 use Rattle.std.specs.List.{position_or_len}
 use Rattle.prelude.proofs.Never.{false_true}
 use Rattle.prelude.proofs.Both.{both_left, both_right}
 use Rattle.output.specs.Placed.{part}
 use Rattle.output.proofs.Laws.{length_part}
+use Rattle.values.specs.declared.Name.{Name}
+use Rattle.line_layouts.specs.declared.Tag.{Tag}
 use Rattle.line_layouts.specs.declared.Column.{Column}
-use Rattle.line_layouts.specs.Columns.{no_column}
+use Rattle.line_layouts.specs.Columns.{columns, no_column}
 use Rattle.line_texts.specs.Pieces.{onto, split, piece_fits, fields_fit}
 use Rattle.line_texts.specs.Places.{no_place, places_from, places_of, left, places_left, next_from}
-use Rattle.line_texts.specs.Places.{Ends, Next}
+use Rattle.line_texts.specs.Places.{Ends, Next, CutInto}
 use Rattle.line_texts.proofs.Joins.{split_some}
 
 -- ---- the end of a piece
@@ -152,6 +154,16 @@ module _ (sep n : ℕ) (s : List ℕ) where
   left_some k f =
       lt-leb (length (split sep (drop 4 s))) n
       (omega (arith, rest, ap length f, length_places k (split sep (drop k s)), split_some sep (drop k s)))
+
+-- places that are those of the first pieces, one for each column
+pub cut_into : (sep : ℕ) (s : List ℕ) (tag : Tag) (places : List Name) (j : ℕ) → 4 ≤ length s → j ≡ length (columns tag)
+    → ((i : ℕ) → get_or places i no_place ≡ get_or (take j (places_of sep s)) i no_place)
+    → CutInto sep s tag places
+cut_into sep s tag places j long end is =
+    record {
+      long = long;
+      is = λ (i : ℕ) inside. is i ∙ get_or-take j (places_of sep s) i no_place (omega (arith, end, inside));
+    }
 
 -- ---- columns, at column j
 

@@ -8,7 +8,7 @@
 --   content_held   .. or the refusal
 --   Ends, Next, CutInto, CutAt   what a function that cuts promises
 -- Assumes nothing.
-use Rattle.std.specs.Prelude.{◌≡◌, Bool, cond, ◌||◌, List, [], ◌∷◌, ℕ, ◌+◌, ◌-◌, ◌≤◌, ◌<◌, true, false, min, leb, ltb, length, get_or, drop, Option, Some, None, IfSome, Result}
+use Rattle.std.specs.Prelude.{◌≡◌, Bool, cond, ◌||◌, List, [], ◌∷◌, ℕ, ◌+◌, ◌-◌, ◌≤◌, ◌<◌, true, false, min, leb, ltb, length, get_or, drop, Option, Some, None, IfSome, Result, Ok, Err}
 use Rattle.answers.specs.declared.Answer.{Answer}
 use Rattle.output.specs.Placed.{part}
 use Rattle.values.specs.declared.Name.{Name}
@@ -113,13 +113,14 @@ pub record Next (sep : ℕ) (s : List ℕ) (from : Option ℕ) (p : Piece) : Typ
   pub on : IfSome p.next (λ k. k ≤ length s)
   pub behind : places_left sep p.next s ≡ drop 1 (places_left sep from s)
 
--- a piece for each column, and no more of them
+-- a piece for each column
 pub record CutInto (sep : ℕ) (s : List ℕ) (tag : Tag) (places : List Name) : Type 0 where
   pub long : 4 ≤ length s
   pub is : (i : ℕ) → i < length (columns tag) → get_or places i no_place ≡ get_or (places_of sep s) i no_place
-  pub few : leb (length (split sep (drop 4 s))) (length (columns tag)) ≡ true
 
--- .. or too many
-abbrev pub CutAt : ℕ → List ℕ → Tag → Option (List Name) → Type 0
-CutAt sep s tag None = leb (length (split sep (drop 4 s))) (length (columns tag)) ≡ false
-CutAt sep s tag (Some places) = CutInto sep s tag places
+-- .. and no more of them, or too many
+abbrev pub CutAt : ℕ → List ℕ → Tag → Result (List Name) (List Name) → Type 0
+CutAt sep s tag (Ok places) =
+    CutInto sep s tag places × (leb (length (split sep (drop 4 s))) (length (columns tag)) ≡ true)
+CutAt sep s tag (Err places) =
+    CutInto sep s tag places × (leb (length (split sep (drop 4 s))) (length (columns tag)) ≡ false)

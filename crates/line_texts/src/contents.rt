@@ -78,7 +78,9 @@ fn judge_fields(s: &[u8], sep: u8, tag: Tag) -> Result<Line, Answer>
     ensures { result ≡ held_by (line_in sep s.now tag)
         (fields_mean sep tag (split sep (drop 4 s.now))) }
 {
-    let places = cut(s, sep, tag).ok_or(Answer::NotACountLine)?;
+    let Ok(places) = cut(s, sep, tag) else {
+        return Err(Answer::NotACountLine);
+    };
     if !fields_fit(s, sep, tag, places) {
         return Err(Answer::NotACountLine);
     }

@@ -6,7 +6,7 @@ ghost use Rattle.line_layouts.specs.Entries.{named};
 ghost use Rattle.line_layouts.specs.Fitting.{letter_fits};
 ghost use Rattle.line_texts.specs.Pieces.{split, gathered, dated_numeral, numeral_in};
 ghost use Rattle.line_texts.specs.Pieces.{number_fits, value_fits, piece_fits, fields_fit};
-ghost use Rattle.line_texts.specs.Places.{no_place, number_said, said_in, line_in, Ends, Next, CutAt};
+ghost use Rattle.line_texts.specs.Places.{no_place, number_said, said_in, line_in, Ends, Next, CutInto, CutAt};
 
 use super::Piece;
 use line_layouts::columns::{MOST_COLUMNS, back_at, column_count, columns};
@@ -101,8 +101,9 @@ fn piece_at(text: &[u8], sep: u8, from: Option<usize>) -> Piece
     }
 }
 
-// The text behind a tag, cut at its separators into as many pieces as the tag has columns: none where there are more.
-pub fn cut(text: &[u8], sep: u8, tag: Tag) -> Option<[Name; MOST_COLUMNS]>
+// The text behind a tag, cut at its separators into as many pieces as the tag has columns: where there are more, it is an
+// error, with the first ones.
+pub fn cut(text: &[u8], sep: u8, tag: Tag) -> Result<[Name; MOST_COLUMNS], [Name; MOST_COLUMNS]>
     requires { 4 ≤ length text.now }
     ensures { CutAt sep text.now tag result }
 {
@@ -114,8 +115,8 @@ pub fn cut(text: &[u8], sep: u8, tag: Tag) -> Option<[Name; MOST_COLUMNS]>
         from = piece.next;
     }
     match from {
-        Some(_) => None,
-        None => Some(places),
+        Some(_) => Err(places),
+        None => Ok(places),
     }
 }
 
@@ -136,7 +137,7 @@ fn fits_at(sep: u8, column: Column, text: &[u8], place: Name) -> bool
 
 // Whether the piece of each column fits it.
 pub fn fields_fit(text: &[u8], sep: u8, tag: Tag, places: [Name; MOST_COLUMNS]) -> bool
-    requires { CutAt sep text.now tag (Some places) }
+    requires { CutInto sep text.now tag places }
     ensures { result ≡ fields_fit sep (columns tag) (gathered tag (split sep (drop 4 text.now))) }
 {
     for (j, column) in columns(tag).iter().enumerate() {
@@ -177,7 +178,7 @@ fn said_in(sep: u8, column: Column, text: &[u8], place: Name) -> Said
 
 // The fields of a text that fits.
 pub fn fill(text: &[u8], sep: u8, tag: Tag, places: [Name; MOST_COLUMNS]) -> Line
-    requires { CutAt sep text.now tag (Some places)
+    requires { CutInto sep text.now tag places
         × (fields_fit sep (columns tag) (gathered tag (split sep (drop 4 text.now))) ≡ true) }
     ensures { result ≡ line_in sep text.now tag }
 {

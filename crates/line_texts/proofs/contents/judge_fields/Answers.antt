@@ -1,7 +1,7 @@
 -- `line_texts::contents::judge_fields` meets its contract: each return is one law of `fields_mean`.
 -- Assumes nothing.
 use native.Mathlib.Omega.{arith}
-use Rattle.std.specs.Prelude.{Some}
+use Rattle.std.specs.Prelude.{Ok}
 use mathlib.Core.Path.{◌≡◌, ap, sym, ◌∙◌}
 use mathlib.Core.Bool.{true}
 use lib.Dec.{leb}
@@ -20,10 +20,9 @@ use Rattle.line_texts.proofs.contents.judge_fields.Goals as goal
 pub returns-then-not-sites_fit : goal.returns-then-not-sites_fit
 returns-then-not-sites_fit c =
     let a = c.args in
-    let told : c.cut.result ≡ Some c.in_ok-places.places = grind arith in
-    let cut : CutAt a.sep a.s.now a.tag (Some c.in_ok-places.places) = rw told at c.cut.ensures in
+    let cut : CutAt a.sep a.s.now a.tag (Ok c.in-Ok.places) = rw c.in-Ok.is at c.cut.ensures in
     let few : leb (length (split a.sep (drop 4 a.s.now))) (length (columns a.tag)) ≡ true =
-    cut.few in
+    cut.1 in
     let fits : fields_fit a.sep (columns a.tag) (gathered a.tag (split a.sep (drop 4 a.s.now))) ≡ true =
     sym c.fields_fit.ensures ∙ c.if-not-fields_fit.false in
     let told : c.sites_fit.result
@@ -40,10 +39,9 @@ returns-then-not-sites_fit c =
 pub returns : goal.returns
 returns c =
     let a = c.args in
-    let told : c.cut.result ≡ Some c.in_ok-places.places = grind arith in
-    let cut : CutAt a.sep a.s.now a.tag (Some c.in_ok-places.places) = rw told at c.cut.ensures in
+    let cut : CutAt a.sep a.s.now a.tag (Ok c.in-Ok.places) = rw c.in-Ok.is at c.cut.ensures in
     let few : leb (length (split a.sep (drop 4 a.s.now))) (length (columns a.tag)) ≡ true =
-    cut.few in
+    cut.1 in
     let fits : fields_fit a.sep (columns a.tag) (gathered a.tag (split a.sep (drop 4 a.s.now))) ≡ true =
     sym c.fields_fit.ensures ∙ c.if-not-fields_fit.false in
     let told : c.sites_fit.result

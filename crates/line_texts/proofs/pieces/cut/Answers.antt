@@ -4,12 +4,12 @@ use mathlib.Core.Path.{◌≡◌, ◌∙◌}
 use Prim.Native.Nat.{ℕ, ◌+◌, ◌<◌}
 use native.Mathlib.Omega.{arith}
 use lib.ListN.{length, get_or, length-set}
-use lib.Seq.{get_or-take, get_or-drop, drop-drop}
+use lib.Seq.{get_or-drop, drop-drop}
 use Rattle.values.specs.declared.Name.{Name}
 use Rattle.line_layouts.specs.Columns.{columns}
 use Rattle.line_layouts.proofs.Fills.{stored_on}
 use Rattle.line_texts.specs.Places.{no_place, places_of}
-use Rattle.line_texts.proofs.Cuts.{left_none, left_some}
+use Rattle.line_texts.proofs.Cuts.{left_none, left_some, cut_into}
 use Rattle.line_texts.proofs.pieces.cut.Goals as goal
 
 pub loop-j-preserved : goal.loop-j-preserved
@@ -31,18 +31,16 @@ loop-j-preserved c =
 
 pub returns-in-Some : goal.returns-in-Some
 returns-in-Some c =
-    let end : c.loop-j.j ≡ length (columns c.args.tag) = omega (arith, c.column_count-j-end.ensures.0) in
-    rw (← end)
-    (left_some c.args.sep c.loop-j.j c.args.text.now c.in-Some.field-0 (rw c.in-Some.is at c.loop-j.invariant.3))
+    let a = c.args in
+    let end : c.loop-j.j ≡ length (columns a.tag) = omega (arith, c.column_count-j-end.ensures.0) in (
+      cut_into a.sep a.text.now a.tag c.loop-j.places c.loop-j.j c.requires end c.loop-j.invariant.2,
+      rw (← end) (left_some a.sep c.loop-j.j a.text.now c.in-Some.field-0 (rw c.in-Some.is at c.loop-j.invariant.3)),
+    )
 
 pub returns-in-None : goal.returns-in-None
 returns-in-None c =
     let a = c.args in
-    let j = c.loop-j.j in
-    let end : j ≡ length (columns a.tag) = omega (arith, c.column_count-j-end.ensures.0) in
-    record {
-      long = c.requires;
-      is = λ (i : ℕ) inside. c.loop-j.invariant.2 i ∙ get_or-take j (places_of a.sep a.text.now) i no_place
-          (omega arith);
-      few = rw (← end) (left_none a.sep j a.text.now (rw c.in-None.is at c.loop-j.invariant.3));
-    }
+    let end : c.loop-j.j ≡ length (columns a.tag) = omega (arith, c.column_count-j-end.ensures.0) in (
+      cut_into a.sep a.text.now a.tag c.loop-j.places c.loop-j.j c.requires end c.loop-j.invariant.2,
+      rw (← end) (left_none a.sep c.loop-j.j a.text.now (rw c.in-None.is at c.loop-j.invariant.3)),
+    )
