@@ -1,8 +1,6 @@
 // The answers of every call: document 01, "Refusal numbers".
 #![tactic(auto)]
 
-mod display;
-
 ghost use Rattle.std.specs.Prelude.{◌≡◌};
 ghost use Rattle.answers.specs.Numbers.{saying_of, number_of, OfBytes};
 

@@ -11,6 +11,7 @@ use order::Place;
 use session::Session;
 use std::io;
 use std::io::Read;
+use transcript::{AnswerText, Decimal};
 
 const TURNS: u64 = 50000;
 
@@ -50,7 +51,12 @@ fn has_input(stdin: &mut impl Read) -> bool {
 }
 
 fn say_figures(rt: &impl Print, found: Figures) -> io::Result<()> {
-    println!(rt; "{} {} {}", found.answer, found.free, found.promised)
+    println!(rt;
+        "{} {} {}",
+        AnswerText(found.answer),
+        Decimal(found.free.into()),
+        Decimal(found.promised.into())
+    )
 }
 
 fn main(rt: HostRuntime) -> io::Result<()> {

@@ -14,6 +14,7 @@ use reports::list_rows;
 use std::io;
 use std::io::Read;
 use tally_lines::put_rows;
+use transcript::Decimal;
 
 const MOST_CHUNK: usize = 262144;
 
@@ -77,11 +78,11 @@ fn say_end(rt: &impl Print, f: Feeding) -> io::Result<()> {
     let found = calls::figures(house);
     println!(rt;
         "{} {} {} {} {}",
-        number(f.last.answer),
-        f.taken,
-        number(end_feed(house, 0)),
-        found.free,
-        found.promised
+        Decimal(number(f.last.answer).into()),
+        Decimal(f.taken),
+        Decimal(number(end_feed(house, 0)).into()),
+        Decimal(found.free.into()),
+        Decimal(found.promised.into())
     )
 }
 

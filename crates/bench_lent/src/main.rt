@@ -13,6 +13,7 @@ use numbers::Order;
 use order::Place;
 use session::Standing;
 use std::io;
+use transcript::Decimal;
 
 // Records: ten thousand times 1,024 pairs.
 const TURNS: u64 = 20480000;
@@ -131,5 +132,10 @@ fn run() -> Ran {
 
 fn main(rt: HostRuntime) -> io::Result<()> {
     let r = run();
-    println!(rt; "{} {} {}", r.accepted, r.used, r.results)
+    println!(rt;
+        "{} {} {}",
+        Decimal(r.accepted),
+        Decimal(r.used as u64),
+        Decimal(r.results.into())
+    )
 }

@@ -8,6 +8,7 @@ ghost use Rattle.tally_lines.specs.Writing.{most_line};
 use house::Row;
 use std::{array, io};
 use tally_lines::put_rows;
+use transcript::Decimal;
 
 // Listings.
 const TURNS: u64 = 10000;
@@ -43,6 +44,6 @@ fn main(rt: HostRuntime) -> io::Result<()> {
         last = put_rows(&mut out, &all);
         bytes += last as u64;
     }
-    println!(rt; "{bytes}")?;
+    println!(rt; "{}", Decimal(bytes))?;
     rt.write_all(&out[..last])
 }

@@ -6,11 +6,12 @@ use crate::reading_back::say_date;
 use months::{first_day, month_length};
 use numerals::up_to;
 use std::io;
+use transcript::Decimal;
 
 // A time, and its date; past the last time, the last.
 fn say_time(rt: &impl Print, seconds: u64) -> io::Result<()> {
     let t = up_to(seconds, 4294967295);
-    print!(rt; "{t} = ")?;
+    print!(rt; "{} = ", Decimal(t))?;
     say_date(rt, t as u32)
 }
 

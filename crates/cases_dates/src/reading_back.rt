@@ -1,10 +1,11 @@
 // The date of a time, and the time of a date.
 use dates::{read_date, write_date};
 use std::io;
+use transcript::Decimal;
 
 pub(crate) fn say_read(rt: &impl Print, text: &[u8]) -> io::Result<()> {
     match read_date(text) {
-        Some(t) => print!(rt; "{t}"),
+        Some(t) => print!(rt; "{}", Decimal(t.into())),
         None => print!(rt; "no date"),
     }
 }

@@ -3,6 +3,7 @@ ghost use Rattle.std.specs.Prelude.{◌<◌, length};
 
 use dates::read_date;
 use std::io;
+use transcript::Decimal;
 
 fn is_date(text: &[u8]) -> bool {
     read_date(text).is_some()
@@ -11,7 +12,7 @@ fn is_date(text: &[u8]) -> bool {
 pub(crate) fn say_cuts(rt: &impl Print, text: &[u8]) -> io::Result<()> {
     for n in 1..=text.len() {
         if is_date(&text[..n]) {
-            print!(rt; " {n}")?;
+            print!(rt; " {}", Decimal(n as u64))?;
         }
     }
     Ok(())
@@ -33,7 +34,7 @@ fn dates_at(text: &mut [u8], i: usize) -> usize
 
 pub(crate) fn say_altered(rt: &impl Print, text: &mut [u8]) -> io::Result<()> {
     for i in 0..text.len() {
-        print!(rt; " {}", dates_at(text, i))?;
+        print!(rt; " {}", Decimal(dates_at(text, i) as u64))?;
     }
     Ok(())
 }

@@ -6,23 +6,33 @@ use feeding::{end_feed, feed};
 use house::House;
 use reports::judge_report;
 use std::io;
+use transcript::{AnswerText, Decimal};
+
+// An answer by its number alone.
+fn numbered(answer: Answer) -> Decimal {
+    Decimal(number(answer).into())
+}
 
 // The figures are told of a sound house only: of another there are none.
 fn say_figures(rt: &impl Print, h: House) -> io::Result<()> {
     let f = figures(h);
     match f.answer {
-        Answer::Done => println!(rt; ", figures 0, {} free, {} promised", f.free, f.promised),
-        refusal => println!(rt; ", figures {refusal}"),
+        Answer::Done => println!(rt;
+            ", figures 0, {} free, {} promised",
+            Decimal(f.free.into()),
+            Decimal(f.promised.into())
+        ),
+        refusal => println!(rt; ", figures {}", AnswerText(refusal)),
     }
 }
 
 pub(crate) fn say_calls(rt: &impl Print, h: House) -> io::Result<()> {
     print!(rt;
         " open {}, deliver {}, report {}, close {}",
-        number(open_slot(h, 15, 0).answer),
-        number(deliver(h, 0, b"").answer),
-        number(judge_report(h, 0, 1024).answer),
-        number(close_slot(h, 0).answer)
+        numbered(open_slot(h, 15, 0).answer),
+        numbered(deliver(h, 0, b"").answer),
+        numbered(judge_report(h, 0, 1024).answer),
+        numbered(close_slot(h, 0).answer)
     )?;
     say_figures(rt, h)
 }
@@ -33,12 +43,12 @@ pub(crate) fn say_fed(rt: &impl Print, h: House) -> io::Result<()> {
     let ending = end_feed(h, 0);
     println!(rt;
         " feed {}, taken {}, end {}",
-        number(fed.answer),
-        fed.taken,
-        number(ending)
+        numbered(fed.answer),
+        Decimal(fed.taken as u64),
+        numbered(ending)
     )
 }
 
 pub(crate) fn say_delivered(rt: &impl Print, h: House, rec: &[u8]) -> io::Result<()> {
-    println!(rt; " {}", deliver(h, 0, rec).answer)
+    println!(rt; " {}", AnswerText(deliver(h, 0, rec).answer))
 }

@@ -4,6 +4,7 @@ use fixtures::place_at;
 use kinds::{Kind, kind_of};
 use order::next_place;
 use std::io;
+use transcript::Decimal;
 
 // The subtypes that have a name, and runs of custom ones. There is no subtype 256, where the last run ends.
 pub(crate) fn say_type(rt: &impl Print, typ: u8) -> io::Result<()> {
@@ -15,7 +16,7 @@ pub(crate) fn say_type(rt: &impl Print, typ: u8) -> io::Result<()> {
         };
         run = run_at(rt, matches!(kind, Kind::Custom), s, run, " custom")?;
         if !matches!(kind, Kind::Custom | Kind::Unknown) {
-            print!(rt; " {s} {kind}")?;
+            print!(rt; " {} {kind}", Decimal(s as u64))?;
         }
     }
     println!(rt)

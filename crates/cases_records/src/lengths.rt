@@ -1,9 +1,12 @@
 // Whether a body fits, and which lengths of it do: it is cut at every length, so inside each field and at each field's
 // end.
+ghost use Rattle.std.specs.Prelude.{◌≡◌, IfOk, IfSome};
+
 use bodies::read_body;
 use kinds::Kind;
 use numbers::Order;
 use std::io;
+use transcript::Decimal;
 
 // Some past the longest body, 7,695 bytes.
 const PAST: usize = 8192;
@@ -28,21 +31,26 @@ fn fits_at(order: Order, kind: Kind, bytes: &[u8], n: usize) -> bool {
     }
 }
 
-// A run of numbers, first and last: with n where n is within it, and otherwise said.
+// A run of numbers, first and last: with n, which is its last then, where n is within it, and otherwise said.
 pub(crate) fn run_at(
     rt: &impl Print,
     within: bool,
     n: usize,
     run: Option<(usize, usize)>,
     what: &str,
-) -> io::Result<Option<(usize, usize)>> {
+) -> io::Result<Option<(usize, usize)>>
+    ensures { IfOk result (λ r. IfSome r (λ now. now.1 ≡ n)) }
+{
     if within {
         let first = run.map_or(n, |(first, _)| first);
         return Ok(Some((first, n)));
     }
     match run {
-        Some((first, last)) if first < last => print!(rt; " {first} to {last}{what}")?,
-        Some((first, _)) => print!(rt; " {first}{what}")?,
+        Some((first, last)) if first < last => {
+            let (first, last) = (Decimal(first as u64), Decimal(last as u64));
+            print!(rt; " {first} to {last}{what}")?;
+        }
+        Some((first, _)) => print!(rt; " {}{what}", Decimal(first as u64))?,
         None => {}
     }
     Ok(None)

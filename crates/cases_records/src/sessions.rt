@@ -5,15 +5,16 @@ use judging::judge_record;
 use kinds::kind_of;
 use session::{Session, Verdict, verdict_answer};
 use std::io;
+use transcript::{AnswerText, Decimal};
 
 // The row that a part result asks for.
 fn say_wanted(rt: &impl Print, verdict: Verdict) -> io::Result<()> {
     match verdict {
         Verdict::Wanted(_, key) => print!(rt;
             ", row {}/{} bin {}",
-            key / 16777216,
-            key / 65536 % 256,
-            key % 65536
+            Decimal((key / 16777216).into()),
+            Decimal((key / 65536 % 256).into()),
+            Decimal((key % 65536).into())
         ),
         _ => Ok(()),
     }
@@ -22,11 +23,13 @@ fn say_wanted(rt: &impl Print, verdict: Verdict) -> io::Result<()> {
 pub(crate) fn deliver(rt: &impl Print, s: Session, rec: &[u8]) -> io::Result<Session> {
     let judged = judge_record(s, rec);
     let standing = judged.session.standing;
-    print!(rt; " {}", verdict_answer(judged.verdict))?;
+    print!(rt; " {}", AnswerText(verdict_answer(judged.verdict)))?;
     say_wanted(rt, judged.verdict)?;
     print!(rt;
         ", {}, open {}, accepted {}",
-        standing.place, standing.opened, standing.results
+        standing.place,
+        Decimal(standing.opened as u64),
+        Decimal(standing.results.into())
     )?;
     say_wafers(rt, standing.wafers)?;
     Ok(judged.session)
@@ -35,7 +38,7 @@ pub(crate) fn deliver(rt: &impl Print, s: Session, rec: &[u8]) -> io::Result<Ses
 // Most sessions have no wafer open, and their lines say nothing of any.
 fn say_wafers(rt: &impl Print, n: usize) -> io::Result<()> {
     if n != 0 {
-        print!(rt; ", wafers {n}")?;
+        print!(rt; ", wafers {}", Decimal(n as u64))?;
     }
     println!(rt)
 }
@@ -49,7 +52,7 @@ fn say_after(rt: &impl Print, place: u8, rec: &[u8]) -> io::Result<()> {
     let judged = judge_record(session_at(place), rec);
     match verdict_answer(judged.verdict) {
         Answer::Done => print!(rt; "{:>8}", judged.session.standing.place),
-        refusal => print!(rt; "{:>8}", answers::number(refusal)),
+        refusal => print!(rt; "{:>8}", Decimal(answers::number(refusal).into())),
     }
 }
 

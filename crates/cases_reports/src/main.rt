@@ -12,6 +12,7 @@ use order::Place;
 use reports::report;
 use session::Session;
 use std::io;
+use transcript::{AnswerText, Decimal, RowText};
 
 // A slice of two rows after a report, and what the report answered.
 #[derive(Clone, Copy)]
@@ -82,8 +83,11 @@ fn line(rt: &impl Print, name: &str, h: House, slot: u32) -> io::Result<()> {
         rows: [first, second],
     } = lend_pair([old; 2], h, slot);
     println!(rt;
-        "{name}: {}, rows {}: {first} {second}",
-        reported.answer, reported.rows
+        "{name}: {}, rows {}: {} {}",
+        AnswerText(reported.answer),
+        Decimal(reported.rows as u64),
+        RowText(first),
+        RowText(second)
     )
 }
 

@@ -8,6 +8,7 @@ use asked_calls::Call;
 use house::House;
 use plays::{Played, play};
 use std::io;
+use transcript::{AnswerText, Decimal, RowText};
 
 // What a call that is done found, if it asked for something: how many rows there are, and the rows, or the figures.
 fn say_found(rt: &impl Print, call: Call, done: &Played) -> io::Result<()>
@@ -15,13 +16,17 @@ fn say_found(rt: &impl Print, call: Call, done: &Played) -> io::Result<()>
 {
     match call {
         Call::Report(_, _) => {
-            print!(rt; " {}", done.count)?;
+            print!(rt; " {}", Decimal(done.count as u64))?;
             for row in &done.rows[..done.count] {
-                print!(rt; " {row}")?;
+                print!(rt; " {}", RowText(*row))?;
             }
             Ok(())
         }
-        Call::Figures => print!(rt; " {} {}", done.free, done.promised),
+        Call::Figures => print!(rt;
+            " {} {}",
+            Decimal(done.free.into()),
+            Decimal(done.promised.into())
+        ),
         _ => Ok(()),
     }
 }
@@ -35,12 +40,12 @@ pub(crate) fn house_call(
     carries: &mut Carries,
 ) -> io::Result<House> {
     let done = play(house, call, bytes, lent_to(carries, call));
-    print!(rt; "{}", done.answer)?;
+    print!(rt; "{}", AnswerText(done.answer))?;
     if matches!(done.answer, Answer::Done) {
         say_found(rt, call, &done)?;
     }
     if matches!(call, Call::Feed(_, _)) {
-        print!(rt; " {}", done.taken)?;
+        print!(rt; " {}", Decimal(done.taken as u64))?;
     }
     println!(rt)?;
     Ok(done.house)

@@ -3,8 +3,6 @@
 // them over any sequence of calls. The crate lent does what they say over lent rows, the crate calls by value.
 #![tactic(auto)]
 
-mod display;
-
 ghost use Rattle.std.specs.Prelude.{◌≡◌};
 ghost use Rattle.house.specs.House.{closed_slot, opened_slot, fresh};
 
