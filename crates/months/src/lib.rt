@@ -24,8 +24,7 @@ pub fn month_length(month: u32) -> u32
     requires { month ≤ 100_000 }
     ensures { result ≡ length_of month }
 {
-    let row = LENGTHS[leap_row(1970 + month / 12)];
-    u32::from(row[(month % 12) as usize])
+    u32::from(LENGTHS[leap_row(1970 + month / 12)][(month % 12) as usize])
 }
 
 // The day on which a month begins.
