@@ -18,7 +18,8 @@ fn say_figures(rt: &impl Print, h: House) -> io::Result<()> {
     let f = figures(h);
     match f.answer {
         Answer::Done => println!(rt;
-            ", figures 0, {} free, {} promised",
+            ", figures {}, {} free, {} promised",
+            numbered(f.answer),
             Decimal(f.free.into()),
             Decimal(f.promised.into())
         ),

@@ -27,7 +27,7 @@ pub(crate) fn say_steps(rt: &impl Print, kind: Kind) -> io::Result<()> {
     for i in 0..6 {
         match next_place(place_at(i), kind) {
             Some(place) => print!(rt; "{place:>8}")?,
-            None => print!(rt; "       8")?,
+            None => print!(rt; "{:>8}", Decimal(8))?,
         }
     }
     println!(rt)

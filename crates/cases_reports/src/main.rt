@@ -71,6 +71,10 @@ fn house_of(used: usize) -> House {
     h
 }
 
+fn text_of(row: Row) -> RowText {
+    RowText(row.head, row.site, row.bin, row.count)
+}
+
 fn line(rt: &impl Print, name: &str, h: House, slot: u32) -> io::Result<()> {
     let old = Row {
         head: 9,
@@ -86,8 +90,8 @@ fn line(rt: &impl Print, name: &str, h: House, slot: u32) -> io::Result<()> {
         "{name}: {}, rows {}: {} {}",
         AnswerText(reported.answer),
         Decimal(reported.rows as u64),
-        RowText(first),
-        RowText(second)
+        text_of(first),
+        text_of(second)
     )
 }
 

@@ -18,7 +18,7 @@ fn say_found(rt: &impl Print, call: Call, done: &Played) -> io::Result<()>
         Call::Report(_, _) => {
             print!(rt; " {}", Decimal(done.count as u64))?;
             for row in &done.rows[..done.count] {
-                print!(rt; " {}", RowText(*row))?;
+                print!(rt; " {}", RowText(row.head, row.site, row.bin, row.count))?;
             }
             Ok(())
         }

@@ -8,7 +8,6 @@ use Prim.Native.Char.{code}
 use Rattle.answers.specs.declared.Answer.{Answer}
 use Rattle.answers.specs.Numbers.{number_of, values_of}
 use Rattle.digits.specs.Digits.{digits}
-use Rattle.house.specs.declared.Row.{Row}
 
 -- a number, and values behind it
 abbrev pub with_values : List ℕ → Option (ℕ × ℕ) → List ℕ
@@ -18,6 +17,6 @@ with_values number (Some (head, site)) = number ++ code " " ∷ digits head ++ c
 abbrev pub answer_text : Answer → List ℕ
 answer_text a = with_values (digits (number_of a)) (values_of a)
 
-abbrev pub row_text : Row → List ℕ
-row_text r =
-    digits r.head ++ code "/" ∷ digits r.site ++ code "/" ∷ digits r.bin ++ code "=" ∷ digits r.count
+abbrev pub row_text : ℕ → ℕ → ℕ → ℕ → List ℕ
+row_text head site bin count =
+    digits head ++ code "/" ∷ digits site ++ code "/" ∷ digits bin ++ code "=" ∷ digits count

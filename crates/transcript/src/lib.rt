@@ -9,7 +9,6 @@ ghost use Rattle.transcript.specs.Texts.{answer_text, row_text};
 
 use answers::{Answer, Saying, said};
 use digits::put_digits;
-use house::Row;
 use std::{fmt, io, str};
 
 // A number.
@@ -49,17 +48,17 @@ impl fmt::Display for AnswerText {
     }
 }
 
-// A row of a report: head, site and bin, and its count.
+// A row of a report: its head, its site and its bin, and its count.
 #[derive(Clone, Copy)]
-pub struct RowText(pub Row);
+pub struct RowText(pub u8, pub u8, pub u16, pub u32);
 
 impl fmt::Display for RowText {
-    ghost output = { λ r. Some (row_text r.0) };
+    ghost output = { λ r. Some (row_text r.0 r.1 r.2 r.3) };
 
     fn fmt<W: fmt::Write>(&self, f: &mut fmt::Formatter<W>) -> fmt::Result {
-        let r = self.0;
-        let (head, site) = (Decimal(u64::from(r.head)), Decimal(u64::from(r.site)));
-        let (bin, count) = (Decimal(u64::from(r.bin)), Decimal(u64::from(r.count)));
+        let RowText(head, site, bin, count) = *self;
+        let (head, site) = (Decimal(u64::from(head)), Decimal(u64::from(site)));
+        let (bin, count) = (Decimal(u64::from(bin)), Decimal(u64::from(count)));
         write!(f, "{head}/{site}/{bin}={count}")
     }
 }
